@@ -1,0 +1,7 @@
+pub mod Argument
+pub mod Byte
+pub mod Memory
+pub mod Name
+pub mod Outside
+pub mod Run
+pub mod Width
