@@ -1,0 +1,29 @@
+-- What each form of the source means: the equations of the evaluator.
+use Rattle.std.proofs.Common.{◌≡◌, ℕ, List}
+use Rattle.krml_ast.specs.declared.tree.IntTy.{IntTy}
+use Rattle.krml_ast.specs.declared.tree.BinOp.{BinOp}
+use Rattle.krml_ast.specs.declared.tree.CmpOp.{CmpOp}
+use Rattle.krml_ast.specs.declared.tree.Expr.{Expr}
+use Rattle.krml_ast.specs.declared.tree.Expr.TheVariants as e
+use Rattle.krml_ast.specs.declared.tree.Expr.TheFolds.{fold_out-Expr}
+use Rattle.krml_ast.specs.Meaning.{eval, var, num, bin, cmp, choose}
+
+-- a variable
+pub var_is : (x : List ℕ) → eval (e.Var x) ≡ var x
+var_is x = rw (fold_out-Expr, e.outs-Var)
+
+-- a literal
+pub num_is : (i : IntTy) (n : ℕ) → eval (e.Num i n) ≡ num i n
+num_is i n = rw (fold_out-Expr, e.outs-Num)
+
+-- an operation
+pub bin_is : (op : BinOp) (i : IntTy) (a b : Expr) → eval (e.Bin op i a b) ≡ bin op i (eval a) (eval b)
+bin_is op i a b = rw (fold_out-Expr, e.outs-Bin)
+
+-- a comparison
+pub cmp_is : (op : CmpOp) (i : IntTy) (a b : Expr) → eval (e.Cmp op i a b) ≡ cmp op i (eval a) (eval b)
+cmp_is op i a b = rw (fold_out-Expr, e.outs-Cmp)
+
+-- an `if`
+pub choose_is : (c a b : Expr) → eval (e.If c a b) ≡ choose (eval c) (eval a) (eval b)
+choose_is c a b = rw (fold_out-Expr, e.outs-If)
