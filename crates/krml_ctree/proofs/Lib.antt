@@ -1,0 +1,10 @@
+pub mod Again
+pub mod Arms
+pub mod Cut
+pub mod Locals
+pub mod Names
+pub mod Parse
+pub mod Spelled
+pub mod Steps
+pub mod Unique
+pub mod Written

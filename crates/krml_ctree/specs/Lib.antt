@@ -1,0 +1,7 @@
+pub mod Evaluate
+pub mod Meaning
+pub mod Shape
+pub mod Spelling
+pub mod Text
+pub mod Tokens
+pub mod WellFormed
