@@ -1,0 +1,11 @@
+pub mod Cuts
+pub mod Definitions
+pub mod Exact
+pub mod Expressions
+pub mod FirstFiles
+pub mod Layer
+pub mod Nested
+pub mod Nesting
+pub mod Numbers
+pub mod Only
+pub mod Words

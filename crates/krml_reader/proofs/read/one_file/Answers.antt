@@ -1,0 +1,5 @@
+use Rattle.krml_reader.proofs.Exact.{same_file}
+use Rattle.krml_reader.proofs.read.one_file.Goals as goal
+
+pub returns : goal.returns
+returns c = same_file
