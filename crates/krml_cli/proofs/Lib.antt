@@ -1,0 +1,15 @@
+mod Clauses
+mod Ended
+mod FirstRuns
+mod Known
+mod Listed
+mod Simulation
+mod SimulationCode
+mod SimulationFile
+mod SimulationImages
+mod SimulationLocals
+mod SimulationNames
+mod WellFormedProgram
+mod WellFormedProgramCode
+mod WellFormedProgramNames
+mod Word

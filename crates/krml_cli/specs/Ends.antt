@@ -1,0 +1,173 @@
+-- What a call of the program does at its three ends: the source, the output, the notes.
+use Rattle.std.specs.Prelude.{◌≡◌, ◌≢◌, ℕ, ◌+◌, ◌≤◌, ◌⊎◌, ◌↔◌, List, [], ◌∷◌, ◌++◌, length, codes, Option, Result, Ok, Err, Vec}
+use Rattle.std.specs.declared.alloc.Global.{Global}
+use Rattle.std.specs.Io.KnownBytes.{Consumes, Appends, IsAtEnd}
+use Rattle.krml_trace.specs.Outside.{Rose}
+use Rattle.krml_trace.specs.declared.arguments.Arguments.{Arguments}
+use Rattle.krml_trace.specs.declared.bound.Bound.{Bound}
+use Rattle.krml_trace.specs.declared.outside.SinkFault.{SinkFault}
+use Rattle.krml_trace.specs.declared.outside.SinkFault.TheVariants as fault
+use Rattle.krml_ast.specs.declared.tree.SourceFile.{SourceFile}
+use Rattle.krml_ast.specs.First.{IsFirstFile, SpellsFirst}
+use Rattle.krml_ast.specs.Meaning.{ArgumentsFit, source_run}
+use Rattle.krml_ctree.specs.declared.tree.CProgram.{CProgram}
+use Rattle.krml_ctree.specs.Spelling.{SpellsProgram}
+use Rattle.krml_ctree.specs.Text.{text_of}
+use Rattle.krml_ctree.specs.WellFormed.{WellFormed}
+use Rattle.krml_cli.specs.declared.stop.Stop.{Stop}
+use Rattle.krml_cli.specs.declared.stop.Stop.TheVariants as stop
+use Rattle.krml_cli.specs.Theorem.{IsImplementedBy, IsDone}
+use Rattle.krml_cli.specs.Translation.{program_of}
+
+-- the bytes of a source text at the most
+abbrev pub max_text : ℕ
+max_text = 1048576
+
+-- The input was taken to its end, or to one byte past the limit.
+pub record Taken (left left' : Option (List ℕ)) (input : List ℕ) : Type 0 where
+  pub consumed : Consumes left left' input
+  pub short : length input ≤ max_text + 1
+  pub whole : length input ≤ max_text → IsAtEnd left'
+
+-- A prefix of a piece was appended.
+pub record AppendsPrefix (written written' : Option (List ℕ)) (piece : List ℕ) : Type 0 where
+  pub prefix : List ℕ
+  pub rest : List ℕ
+  pub is : piece ≡ prefix ++ rest
+  pub appended : Appends written written' prefix
+
+-- What writing a piece until none is left did.
+abbrev pub WritesAll : (written written' : Option (List ℕ)) (faults faults' : ℕ) (piece : List ℕ) → Result (Unit {0}) SinkFault → Type 0
+WritesAll written written' faults faults' piece (Ok u) = Appends written written' piece × (faults' ≡ faults)
+WritesAll written written' faults faults' piece (Err fault.Failed) = AppendsPrefix written written' piece × (faults ≤ faults') × Rose faults faults'
+WritesAll written written' faults faults' piece (Err fault.NoMemory) = AppendsPrefix written written' piece × (faults' ≡ faults)
+
+-- What reading an input did.
+abbrev pub TakesInput : (left left' : Option (List ℕ)) (faults faults' : ℕ) → Result (Vec ℕ Global) Stop → Type 0
+TakesInput left left' faults faults' (Ok input) = Taken left left' input.items × (faults' ≡ faults)
+TakesInput left left' faults faults' (Err stop.ReadFault) = (faults ≤ faults') × Rose faults faults'
+TakesInput left left' faults faults' (Err stop.NoMemory) = faults' ≡ faults
+TakesInput left left' faults faults' (Err _) = ⊥
+
+-- The one command.
+abbrev pub IsCompile : List (List ℕ) → Type 0
+IsCompile words = words ≡ codes "c" ∷ []
+
+abbrev pub IsUsage : List (List ℕ) → Type 0
+IsUsage words = words ≢ codes "c" ∷ []
+
+-- An input spells no first file.
+abbrev pub SpellsNoFirst : List ℕ → Type 0
+SpellsNoFirst input = (file : SourceFile) → SpellsFirst input file → ⊥
+
+-- A text spells a program, and no other.
+abbrev pub SpelledAlone : List ℕ → CProgram → Type 0
+SpelledAlone text p = (q : CProgram) → SpellsProgram text q ↔ (q ≡ p)
+
+-- An input compiles to a text: it spells a first file, and the text is that of the file's program. The program is well
+-- formed, the text spells it alone, and it does what the file does. The runs of a first file on arguments that fit are done.
+pub record CompilesTo (input text : List ℕ) : Type 0 where
+  pub file : SourceFile
+  pub program : CProgram
+  pub spelled : SpellsFirst input file
+  pub translated : program ≡ program_of file
+  pub is : text ≡ text_of program
+  pub well_formed : WellFormed program
+  pub alone : SpelledAlone text program
+  pub implemented : IsImplementedBy file program
+  pub done : IsFirstFile file → (entry : List ℕ) (args : Arguments) (bound : Bound) → ArgumentsFit file entry args → IsDone (source_run file entry args bound).outcome
+
+-- The input was taken, and compiles to this text.
+pub record IsOutput (left left' : Option (List ℕ)) (text : List ℕ) : Type 0 where
+  pub input : List ℕ
+  pub taken : Taken left left' input
+  pub compiled : CompilesTo input text
+
+abbrev pub status_of : Stop → ℕ
+status_of stop.NotBuilt = 1
+status_of stop.Usage = 2
+status_of stop.ReadFault = 3
+status_of stop.WriteFault = 4
+status_of stop.NoMemory = 5
+
+abbrev pub line_of : Stop → List ℕ
+line_of stop.NotBuilt = codes "krml: refused: not built\n"
+line_of stop.Usage = codes "krml: usage\n"
+line_of stop.ReadFault = codes "krml: read fault\n"
+line_of stop.WriteFault = codes "krml: write fault\n"
+line_of stop.NoMemory = codes "krml: out of memory\n"
+
+-- What the words are, what each end tells before and after a call, and its count of faults before and after.
+pub record Call : Type 0 where
+  pub words : List (List ℕ)
+  pub left : Option (List ℕ)
+  pub left' : Option (List ℕ)
+  pub reads : ℕ
+  pub reads' : ℕ
+  pub written : Option (List ℕ)
+  pub written' : Option (List ℕ)
+  pub writes : ℕ
+  pub writes' : ℕ
+  pub noted : Option (List ℕ)
+  pub noted' : Option (List ℕ)
+  pub notes : ℕ
+  pub notes' : ℕ
+
+-- Nothing was written to the output.
+pub record Unwritten (c : Call) : Type 0 where
+  pub same : c.written' ≡ c.written
+  pub quiet : c.writes' ≡ c.writes
+
+-- What was read and written where a call stops.
+pub data Stops (c : Call) : Stop → Type 0 where
+  usage : IsUsage c.words → c.left' ≡ c.left → c.reads' ≡ c.reads → Unwritten c → Stops c stop.Usage
+  read_fault : IsCompile c.words → c.reads ≤ c.reads' → Rose c.reads c.reads' → Unwritten c → Stops c stop.ReadFault
+  not_built : {input : List ℕ} → IsCompile c.words → Taken c.left c.left' input → SpellsNoFirst input → c.reads' ≡ c.reads → Unwritten c → Stops c stop.NotBuilt
+  write_fault : {text : List ℕ} → IsCompile c.words → IsOutput c.left c.left' text → c.reads' ≡ c.reads
+      → AppendsPrefix c.written c.written' text → c.writes ≤ c.writes' → Rose c.writes c.writes' → Stops c stop.WriteFault
+  no_memory : IsCompile c.words → c.reads' ≡ c.reads → Unwritten c → Stops c stop.NoMemory
+  no_memory_to_write : {text : List ℕ} → IsCompile c.words → IsOutput c.left c.left' text → c.reads' ≡ c.reads
+      → AppendsPrefix c.written c.written' text → c.writes' ≡ c.writes → Stops c stop.NoMemory
+
+-- How a call ends.
+pub data Ends (c : Call) : ℕ → Type 0 where
+  -- with its output
+  done : {text : List ℕ} → IsCompile c.words → IsOutput c.left c.left' text → c.reads' ≡ c.reads → Appends c.written c.written' text → c.writes' ≡ c.writes
+      → c.noted' ≡ c.noted → c.notes' ≡ c.notes → Ends c 0
+  -- with the line of what stopped it
+  noted : {why : Stop} → Stops c why → Appends c.noted c.noted' (line_of why) → c.notes' ≡ c.notes → Ends c (status_of why)
+  -- with a prefix of that line, where the notes failed, or lacked memory
+  note_failed : {why : Stop} → Stops c why → AppendsPrefix c.noted c.noted' (line_of why) → c.notes ≤ c.notes' → Rose c.notes c.notes' → Ends c 4
+  note_lacked_memory : {why : Stop} → Stops c why → AppendsPrefix c.noted c.noted' (line_of why) → c.notes' ≡ c.notes → Ends c 5
+
+-- A count rose where the notes were written.
+abbrev pub FailedNotes : ℕ → ℕ → ℕ → Type 0
+FailedNotes status notes notes' = (status ≡ 4) × Rose notes notes'
+
+-- Nothing was written to the output, or a prefix of the text that was to come.
+abbrev pub PrefixOnly : (left left' written written' : Option (List ℕ)) → Type 0
+PrefixOnly left left' written written' = (written' ≡ written) ⊎ ((text : List ℕ) × IsOutput left left' text × AppendsPrefix written written' text)
+
+-- A line of the notes.
+abbrev pub IsLine : List ℕ → Type 0
+IsLine line = (why : Stop) × (line ≡ line_of why)
+
+-- a status with a line of its own that was noted
+abbrev pub IsNoted : ℕ → Type 0
+IsNoted status = (status ≡ 1) ⊎ (status ≡ 2) ⊎ (status ≡ 3)
+
+-- a status that may come in the midst of writing
+abbrev pub IsCut : ℕ → Type 0
+IsCut status = (status ≡ 4) ⊎ (status ≡ 5)
+
+-- The input was taken, and the text that it compiles to was appended.
+pub record Compiled (left left' written written' : Option (List ℕ)) : Type 0 where
+  pub text : List ℕ
+  pub output : IsOutput left left' text
+  pub appended : Appends written written' text
+
+-- The input was taken, and spells no first file.
+pub record Refused (left left' : Option (List ℕ)) : Type 0 where
+  pub input : List ℕ
+  pub taken : Taken left left' input
+  pub refused : SpellsNoFirst input

@@ -1,0 +1,7 @@
+pub mod Emitting
+pub mod Ends
+pub mod Image
+pub mod Printing
+pub mod Steps
+pub mod Theorem
+pub mod Translation
