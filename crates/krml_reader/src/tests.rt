@@ -99,7 +99,7 @@ fn refuses_what_is_no_first_file(rt: HostRuntime) {
 #[test]
 fn keeps_to_the_limits(rt: HostRuntime) {
     let alloc = rt.alloc();
-    let cases: [(&[(&[u8], usize)], bool); 12] = [
+    let cases: [(&[(&[u8], usize)], bool); 11] = [
         // levels
         (
             &[
@@ -167,14 +167,6 @@ fn keeps_to_the_limits(rt: HostRuntime) {
             true,
         ),
         // forms
-        (
-            &[
-                (b"(fun f () () u32 (u32 1", 1),
-                (b" 1", 7_991),
-                (b")) (entry f)", 1),
-            ],
-            false,
-        ),
         (&[(b"a ", 524_288)], false),
         // parameters
         (
@@ -199,32 +191,76 @@ fn keeps_to_the_limits(rt: HostRuntime) {
     }
 }
 
+/// A balanced sum of 64 variables: 253 forms in 6 levels.
+fn sum_of_64(alloc: Global) -> Result<Vec<u8>, NoMemory> {
+    let mut sum = text_of(alloc, &[(b"a", 1)])?;
+    for _ in 0..6 {
+        let half = sum.as_slice();
+        sum = text_of(
+            alloc,
+            &[
+                (b"(add u32 ", 1),
+                (half, 1),
+                (b" ", 1),
+                (half, 1),
+                (b")", 1),
+            ],
+        )?;
+    }
+    Ok(sum)
+}
+
+/// A file whose definition has 7,988 forms in its sums, 5 words and lists beside them, and those of its parameters and
+/// of its last operand.
+fn sums(alloc: Global, params: &[u8], last: &[u8]) -> Result<Vec<u8>, NoMemory> {
+    let sum = sum_of_64(alloc)?;
+    let mut text = Vec::new(alloc);
+    text.extend_from_slice(b"(fun f () ")?;
+    text.extend_from_slice(params)?;
+    text.extend_from_slice(b" u32 ")?;
+    for _ in 0..31 {
+        text.extend_from_slice(b"(add u32 ")?;
+        text.extend_from_slice(sum.as_slice())?;
+        text.extend_from_slice(b" ")?;
+    }
+    for _ in 0..13 {
+        text.extend_from_slice(b"(add u32 a ")?;
+    }
+    text.extend_from_slice(last)?;
+    for _ in 0..45 {
+        text.extend_from_slice(b")")?;
+    }
+    text.extend_from_slice(b"(entry f)")?;
+    Ok(text)
+}
+
+#[test]
+fn takes_8000_forms(rt: HostRuntime) {
+    let alloc = rt.alloc();
+    let most = sums(alloc, b"((a u32))", b"(u32 1)").expect(&rt, "memory");
+    assert!(rt; read_file(alloc, most.as_slice()).is_ok());
+    let more = sums(alloc, b"((a u32) (b u32))", b"a").expect(&rt, "memory");
+    assert!(rt; is_not_built(&read_file(alloc, more.as_slice())));
+}
+
+/// A file whose function has so many parameters.
+fn parameters(alloc: Global, count: u8) -> Result<Vec<u8>, NoMemory> {
+    let mut text = text_of(alloc, &[(b"(fun f () (", 1)])?;
+    for i in 0..count {
+        let name = [b'a' + i / 16, b'a' + i % 16];
+        text.extend_from_slice(b"(")?;
+        text.extend_from_slice(&name)?;
+        text.extend_from_slice(b" u32)")?;
+    }
+    text.extend_from_slice(b") u32 aa) (entry f)")?;
+    Ok(text)
+}
+
 #[test]
 fn takes_32_parameters(rt: HostRuntime) {
     let alloc = rt.alloc();
-    let mut text = Vec::new(alloc);
-    text.extend_from_slice(b"(fun f () (").expect(&rt, "memory");
-    for i in 0..33_u8 {
-        if i == 32 {
-            let mut whole = text.clone().expect(&rt, "memory");
-            whole
-                .extend_from_slice(b") u32 aa) (entry f)")
-                .expect(&rt, "memory");
-            assert!(rt; read_file(alloc, whole.as_slice()).is_ok());
-        }
-        let param = [
-            b'(',
-            b'a' + i / 16,
-            b'a' + i % 16,
-            b' ',
-            b'u',
-            b'3',
-            b'2',
-            b')',
-        ];
-        text.extend_from_slice(&param).expect(&rt, "memory");
-    }
-    text.extend_from_slice(b") u32 aa) (entry f)")
-        .expect(&rt, "memory");
-    assert!(rt; is_not_built(&read_file(alloc, text.as_slice())));
+    let most = parameters(alloc, 32).expect(&rt, "memory");
+    assert!(rt; read_file(alloc, most.as_slice()).is_ok());
+    let more = parameters(alloc, 33).expect(&rt, "memory");
+    assert!(rt; is_not_built(&read_file(alloc, more.as_slice())));
 }
