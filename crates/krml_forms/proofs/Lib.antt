@@ -1,0 +1,11 @@
+pub mod Clean
+pub mod Counts
+pub mod Cuts
+pub mod Joins
+pub mod Layer
+pub mod Nested
+pub mod Nesting
+pub mod Places
+pub mod Readings
+pub mod Words
+pub mod Written
