@@ -1,12 +1,12 @@
 -- What each form of the source means: the equations of the evaluator.
 use Rattle.std.proofs.Common.{◌≡◌, ℕ, List}
 use Rattle.krml_ast.specs.declared.tree.IntTy.{IntTy}
-use Rattle.krml_ast.specs.declared.tree.BinOp.{BinOp}
-use Rattle.krml_ast.specs.declared.tree.CmpOp.{CmpOp}
+use Rattle.krml_ast.specs.declared.tree.BinOp.TheVariants.{Add}
+use Rattle.krml_ast.specs.declared.tree.CmpOp.TheVariants.{Lt}
 use Rattle.krml_ast.specs.declared.tree.Expr.{Expr}
 use Rattle.krml_ast.specs.declared.tree.Expr.TheVariants as e
 use Rattle.krml_ast.specs.declared.tree.Expr.TheFolds.{fold_out-Expr}
-use Rattle.krml_ast.specs.Meaning.{eval, var, num, bin, cmp, choose}
+use Rattle.krml_ast.specs.Meaning.{eval, var, num, sum, less, choose}
 
 -- a variable
 pub var_is : (x : List ℕ) → eval (e.Var x) ≡ var x
@@ -16,13 +16,13 @@ var_is x = rw (fold_out-Expr, e.outs-Var)
 pub num_is : (i : IntTy) (n : ℕ) → eval (e.Num i n) ≡ num i n
 num_is i n = rw (fold_out-Expr, e.outs-Num)
 
--- an operation
-pub bin_is : (op : BinOp) (i : IntTy) (a b : Expr) → eval (e.Bin op i a b) ≡ bin op i (eval a) (eval b)
-bin_is op i a b = rw (fold_out-Expr, e.outs-Bin)
+-- a sum
+pub sum_is : (i : IntTy) (a b : Expr) → eval (e.Bin Add i a b) ≡ sum i (eval a) (eval b)
+sum_is i a b = rw (fold_out-Expr, e.outs-Bin)
 
--- a comparison
-pub cmp_is : (op : CmpOp) (i : IntTy) (a b : Expr) → eval (e.Cmp op i a b) ≡ cmp op i (eval a) (eval b)
-cmp_is op i a b = rw (fold_out-Expr, e.outs-Cmp)
+-- a comparison by less
+pub less_is : (i : IntTy) (a b : Expr) → eval (e.Cmp Lt i a b) ≡ less i (eval a) (eval b)
+less_is i a b = rw (fold_out-Expr, e.outs-Cmp)
 
 -- an `if`
 pub choose_is : (c a b : Expr) → eval (e.If c a b) ≡ choose (eval c) (eval a) (eval b)

@@ -1,1 +1,3 @@
 pub mod Evals
+pub mod Numbers
+pub mod Only

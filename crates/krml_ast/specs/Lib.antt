@@ -1,8 +1,8 @@
 pub mod Evaluate
-pub mod First
-pub mod Levels
+pub mod File
+pub mod Limits
 pub mod Meaning
 pub mod Name
 pub mod Number
+pub mod Read
 pub mod Spelling
-pub mod Text

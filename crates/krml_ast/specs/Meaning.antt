@@ -1,7 +1,7 @@
 -- What a file means: the run of an entry on arguments, under a bound.
 -- An expression means a step from a scope and a state to a value. Each form has one combinator on the meanings of its
 -- parts, and the table `eval_step` says which. A value of the wrong shape, or a name that is not there, is Undefined:
--- that comes in no file that is well typed.
+-- that comes in no file that is well typed. So is, for now, each form that first files lack.
 use Rattle.std.specs.Prelude.{ℕ, ◌+◌, ◌%◌, ◌^◌, Bool, true, false, if◌then◌else◌, nat_lt, List, [], ◌∷◌, Option, Some, None, IsSome, option_map, option_and_then}
 use Rattle.std.specs.Str.{bytes_eq}
 use Rattle.krml_trace.specs.declared.width.Width.{Width}
@@ -13,7 +13,7 @@ use Rattle.krml_trace.specs.declared.outcome.Outcome.{Outcome}
 use Rattle.krml_trace.specs.declared.outcome.Outcome.TheVariants as outcome
 use Rattle.krml_trace.specs.declared.why.Why.TheVariants.{Undefined}
 use Rattle.krml_trace.specs.Width.{bits, same_width}
-use Rattle.krml_trace.specs.Run.{State, Ran, Goes, bind, leave, with_some, outcome_of, events_of}
+use Rattle.krml_trace.specs.Run.{State, Ran, Goes, Ends, bind, leave, with_some, outcome_of, events_of}
 use Rattle.krml_ast.specs.declared.event.SourceEvent.{SourceEvent}
 use Rattle.krml_ast.specs.declared.event.SourceEvent.TheVariants as event
 use Rattle.krml_ast.specs.declared.value.Value.{Value}
@@ -24,9 +24,7 @@ use Rattle.krml_ast.specs.declared.tree.IntTy.{IntTy}
 use Rattle.krml_ast.specs.declared.tree.Ty.{Ty}
 use Rattle.krml_ast.specs.declared.tree.Ty.TheVariants as t
 use Rattle.krml_ast.specs.declared.tree.Field.{Field}
-use Rattle.krml_ast.specs.declared.tree.BinOp.{BinOp}
 use Rattle.krml_ast.specs.declared.tree.BinOp.TheVariants.{Add}
-use Rattle.krml_ast.specs.declared.tree.CmpOp.{CmpOp}
 use Rattle.krml_ast.specs.declared.tree.CmpOp.TheVariants.{Lt}
 use Rattle.krml_ast.specs.declared.tree.Expr.{Expr}
 use Rattle.krml_ast.specs.declared.tree.Expr.TheOpen.{Expr-F}
@@ -80,36 +78,34 @@ var x scope s = with_some Undefined (look scope x) s (λ v. Goes v s)
 abbrev pub num : IntTy → ℕ → Sem
 num i n scope s = Goes (value.Num i.width n) s
 
--- the sum, modulo 2 to the width
-abbrev pub bin_value : BinOp → Width → ℕ → ℕ → ℕ
-bin_value Add w m n = (m + n) % 2 ^ bits w
+-- (add I a b): two numbers of the type, and their sum modulo 2 to the width
+abbrev pub sum : IntTy → Sem → Sem → Sem
+sum i a b scope s = operands i.width a b scope s (λ m n s. Goes (value.Num i.width ((m + n) % 2 ^ bits i.width)) s)
 
--- (OP I a b): two numbers of the type, and then the operation
-abbrev pub bin : BinOp → IntTy → Sem → Sem → Sem
-bin op i a b scope s = operands i.width a b scope s (λ m n s. Goes (value.Num i.width (bin_value op i.width m n)) s)
-
-abbrev pub cmp_value : CmpOp → ℕ → ℕ → Bool
-cmp_value Lt m n = nat_lt m n
-
--- (OP I a b), a comparison: two numbers of the type, and then whether it holds of them
-abbrev pub cmp : CmpOp → IntTy → Sem → Sem → Sem
-cmp op i a b scope s = operands i.width a b scope s (λ m n s. Goes (value.Bool (cmp_value op m n)) s)
+-- (lt I a b): two numbers of the type, and whether the first is less
+abbrev pub less : IntTy → Sem → Sem → Sem
+less i a b scope s = operands i.width a b scope s (λ m n s. Goes (value.Bool (nat_lt m n)) s)
 
 -- (if c a b): the condition, which leaves an event, and then one branch
 abbrev pub choose : Sem → Sem → Sem → Sem
 choose c a b scope s =
     bind (c scope s) (λ x s. with_some Undefined (as_truth x) s (λ t. if t then a scope (leave (event.If true) s) else b scope (leave (event.If false) s)))
 
-abbrev pub eval_step : Expr-F Sem → Sem
+-- a form without a meaning yet
+abbrev pub undefined : Sem
+undefined scope s = Ends Undefined s.events
+
+abbrev pub eval_step : Expr-F Sem (Unit {0}) (Unit {0}) (Unit {0}) → Sem
 eval_step (Expr-F.Var x) = var x
 eval_step (Expr-F.Num i n) = num i n
-eval_step (Expr-F.Bin op i a b) = bin op i a b
-eval_step (Expr-F.Cmp op i a b) = cmp op i a b
+eval_step (Expr-F.Bin Add i a b) = sum i a b
+eval_step (Expr-F.Cmp Lt i a b) = less i a b
 eval_step (Expr-F.If c a b) = choose c a b
+eval_step _ = undefined
 
 -- What an expression means.
 abbrev pub eval : Expr → Sem
-eval = fold-Expr Sem eval_step
+eval = fold-Expr Sem (Unit {0}) (Unit {0}) (Unit {0}) eval_step (λ x. tt) (λ x. tt) (λ x. tt)
 
 -- A function, as a run needs it.
 pub record Function : Type 0 where
@@ -121,19 +117,18 @@ abbrev pub function_named : List Def → List ℕ → Option Function
 function_named [] x = None
 function_named (d.Fun name vars params result body ∷ defs) x =
     if bytes_eq name x then Some (record { params = params; body = body }) else function_named defs x
-function_named (d.Entry name ∷ defs) x = function_named defs x
+function_named (def ∷ defs) x = function_named defs x
 
 -- Whether there is an entry of a name.
 abbrev pub has_entry : List Def → List ℕ → Bool
 has_entry [] x = false
-has_entry (d.Fun name vars params result body ∷ defs) x = has_entry defs x
 has_entry (d.Entry name ∷ defs) x = if bytes_eq name x then true else has_entry defs x
+has_entry (def ∷ defs) x = has_entry defs x
 
 -- The value of an argument that fits a parameter's type: a number fits an integer type of its width.
 abbrev pub passed : Arg → Ty → Option Value
 passed (arg.Num w n) (t.Int i) = if same_width w i.width then Some (value.Num w n) else None
-passed (arg.Bool b) (t.Int i) = None
-passed (arg.Buf w ns) (t.Int i) = None
+passed _ _ = None
 
 -- The parameters over a scope, the last one the newest, where the arguments fit them one by one.
 abbrev pub with_arguments : List Field → List Arg → Scope → Option Scope

@@ -3,7 +3,7 @@
 ghost use Rattle.std.specs.Prelude.{◌≡◌, OnOk, IfOk};
 ghost use Rattle.krml_trace.specs.Run.{leave};
 ghost use Rattle.krml_ast.specs.Evaluate.{ran_of, steps_named};
-ghost use Rattle.krml_ast.specs.Meaning.{look, as_number, as_truth, passed, with_arguments, bin_value, cmp_value, scalar, eval, has_entry, run_of, source_run};
+ghost use Rattle.krml_ast.specs.Meaning.{look, as_number, as_truth, passed, with_arguments, scalar, eval, has_entry, run_of, source_run};
 
 use crate::event::SourceEvent;
 use crate::run::SourceRun;
@@ -29,9 +29,13 @@ struct Evaluator {
 
 impl Model for Evaluator {
     ghost use Rattle.std.specs.Prelude.{[], reverse};
+    ghost use Rattle.std.specs.Coded.{codes};
     ghost use Rattle.krml_ast.specs.Meaning.{SourceState};
+    ghost use Rattle.krml_ast.specs.contracts.tree.Ty as ty;
 
     ghost Value = { SourceState };
+
+    ghost coded = { Prim.hlevel (codes, ty.the_row.coded) };
 
     ghost view = { λ m. record { ticks = m.ticks; memory = []; events = reverse m.events } };
 }
@@ -54,7 +58,7 @@ impl Evaluator {
                 None => Ok(Step::Ends(Why::Undefined)),
             },
             Expr::Num(i, n) => Ok(Step::Goes(Value::Num(i.width, *n))),
-            Expr::Bin(op, i, a, b) => {
+            Expr::Bin(BinOp::Add, i, a, b) => {
                 let x = match self.expr(a.get(), scope)? {
                     Step::Goes(x) => x,
                     Step::Ends(why) => return Ok(Step::Ends(why)),
@@ -69,9 +73,9 @@ impl Evaluator {
                 let Some(n) = as_number(i.width, y) else {
                     return Ok(Step::Ends(Why::Undefined));
                 };
-                Ok(Step::Goes(Value::Num(i.width, bin_value(*op, i.width, m, n))))
+                Ok(Step::Goes(Value::Num(i.width, i.width.wrap(m.wrapping_add(n)))))
             }
-            Expr::Cmp(op, i, a, b) => {
+            Expr::Cmp(CmpOp::Lt, i, a, b) => {
                 let left = match self.expr(a.get(), scope)? {
                     Step::Goes(left) => left,
                     Step::Ends(why) => return Ok(Step::Ends(why)),
@@ -86,7 +90,7 @@ impl Evaluator {
                 let Some(n) = as_number(i.width, right) else {
                     return Ok(Step::Ends(Why::Undefined));
                 };
-                Ok(Step::Goes(Value::Bool(cmp_value(*op, m, n))))
+                Ok(Step::Goes(Value::Bool(m < n)))
             }
             Expr::If(c, a, b) => {
                 let x = match self.expr(c.get(), scope)? {
@@ -105,6 +109,7 @@ impl Evaluator {
                     Ok(r)
                 }
             }
+            _ => Ok(Step::Ends(Why::Undefined)),
         }
     }
 
@@ -183,22 +188,6 @@ fn as_truth(v: Value) -> Option<bool>
     }
 }
 
-fn bin_value(op: BinOp, width: Width, m: u64, n: u64) -> u64
-    ensures { result ≡ bin_value op width m n }
-{
-    match op {
-        BinOp::Add => width.wrap(m.wrapping_add(n)),
-    }
-}
-
-fn cmp_value(op: CmpOp, m: u64, n: u64) -> bool
-    ensures { result ≡ cmp_value op m n }
-{
-    match op {
-        CmpOp::Lt => m < n,
-    }
-}
-
 /// A result as a number.
 fn scalar(v: Value) -> u64
     ensures { result ≡ scalar v }
@@ -237,9 +226,9 @@ fn passed(a: &Arg, ty: &Ty) -> Option<Value>
                     None
                 }
             }
-            Arg::Bool(_) => None,
-            Arg::Buf(_, _) => None,
+            _ => None,
         },
+        _ => None,
     }
 }
 
@@ -286,7 +275,7 @@ fn has_entry(defs: &[Def], x: &Name) -> bool
                 has_entry(rest, x)
             }
         }
-        Def::Fun { .. } => has_entry(rest, x),
+        _ => has_entry(rest, x),
     }
 }
 
@@ -311,170 +300,4 @@ pub fn evaluate_source(
         Step::Ends(Why::Undefined)
     };
     Ok(run.finish(alloc, step))
-}
-
-#[cfg(test)]
-mod tests {
-    use super::*;
-    use crate::tree::IntTy;
-    use krml_trace::Box;
-
-    const U8: IntTy = IntTy {
-        width: Width::W8,
-        secret: false,
-    };
-
-    const U32: IntTy = IntTy {
-        width: Width::W32,
-        secret: false,
-    };
-
-    fn var(alloc: Global, x: &[u8]) -> Result<Expr, NoMemory> {
-        Ok(Expr::Var(Name::new(alloc, x)?))
-    }
-
-    fn add(alloc: Global, a: Expr, b: Expr) -> Result<Expr, NoMemory> {
-        Ok(Expr::Bin(BinOp::Add, U32, Box::new(alloc, a)?, Box::new(alloc, b)?))
-    }
-
-    /// (if (lt u32 x y) a b)
-    fn if_less(alloc: Global, x: &[u8], y: &[u8], a: Expr, b: Expr) -> Result<Expr, NoMemory> {
-        let x = Box::new(alloc, var(alloc, x)?)?;
-        let y = Box::new(alloc, var(alloc, y)?)?;
-        let test = Expr::Cmp(CmpOp::Lt, U32, x, y);
-        Ok(Expr::If(
-            Box::new(alloc, test)?,
-            Box::new(alloc, a)?,
-            Box::new(alloc, b)?,
-        ))
-    }
-
-    /// (fun f () ((x u32) (y u32)) u32 body), and then (entry NAME).
-    fn file(alloc: Global, body: Expr, entry: &[u8]) -> Result<SourceFile, NoMemory> {
-        let mut params = Seq::new(alloc);
-        params.push(Field {
-            name: Name::new(alloc, b"x")?,
-            ty: Ty::Int(U32),
-        })?;
-        params.push(Field {
-            name: Name::new(alloc, b"y")?,
-            ty: Ty::Int(U32),
-        })?;
-        let mut defs = Seq::new(alloc);
-        defs.push(Def::Fun {
-            name: Name::new(alloc, b"f")?,
-            vars: Seq::new(alloc),
-            params,
-            result: Ty::Int(U32),
-            body,
-        })?;
-        defs.push(Def::Entry {
-            name: Name::new(alloc, entry)?,
-        })?;
-        Ok(SourceFile { defs })
-    }
-
-    fn two(alloc: Global, x: u32, y: u32) -> Result<Arguments, NoMemory> {
-        let mut items = Seq::new(alloc);
-        items.push(Arg::Num(Width::W32, u64::from(x)))?;
-        items.push(Arg::Num(Width::W32, u64::from(y)))?;
-        Ok(Arguments { items })
-    }
-
-    /// (fun f ((x u32) (y u32)) u32 (add u32 (if (lt u32 x y) (add u32 x 4294967295) y) (if (lt u32 y x) 10 20)))
-    fn two_ifs(alloc: Global) -> Result<SourceFile, NoMemory> {
-        let sum = add(alloc, var(alloc, b"x")?, Expr::Num(U32, 4294967295))?;
-        let a = if_less(alloc, b"x", b"y", sum, var(alloc, b"y")?)?;
-        let b = if_less(alloc, b"y", b"x", Expr::Num(U32, 10), Expr::Num(U32, 20))?;
-        let body = add(alloc, a, b)?;
-        file(alloc, body, b"f")
-    }
-
-    /// A function that adds numbers of two widths.
-    fn mixed(alloc: Global) -> Result<SourceFile, NoMemory> {
-        let body = add(alloc, var(alloc, b"x")?, Expr::Num(U8, 1))?;
-        file(alloc, body, b"f")
-    }
-
-    fn one(alloc: Global) -> Result<Arguments, NoMemory> {
-        let mut items = Seq::new(alloc);
-        items.push(Arg::Num(Width::W32, 1))?;
-        Ok(Arguments { items })
-    }
-
-    fn wide(alloc: Global) -> Result<Arguments, NoMemory> {
-        let mut items = Seq::new(alloc);
-        items.push(Arg::Num(Width::W32, 1))?;
-        items.push(Arg::Num(Width::W64, 2))?;
-        Ok(Arguments { items })
-    }
-
-    /// No call and no loop stands in these functions, so each bound is enough.
-    const BOUNDS: [Bound; 2] = [Bound { ticks: 0, depth: 0 }, Bound { ticks: 7, depth: 3 }];
-
-    fn run(
-        alloc: Global,
-        file: &SourceFile,
-        entry: &[u8],
-        args: &Arguments,
-        bound: Bound,
-    ) -> Result<SourceRun, NoMemory> {
-        let entry = Name::new(alloc, entry)?;
-        evaluate_source(alloc, file, &entry, args, bound)
-    }
-
-    fn result_of(run: &SourceRun) -> Option<u64> {
-        match &run.outcome {
-            Outcome::Done { result, .. } => *result,
-            _ => None,
-        }
-    }
-
-    fn is_undefined(run: &SourceRun) -> bool {
-        matches!(run.outcome, Outcome::Undefined) && run.events.as_slice().is_empty()
-    }
-
-    #[test]
-    fn branches_sums_and_events(rt: HostRuntime) -> Result<(), NoMemory> {
-        let f = two_ifs(rt.alloc())?;
-        for bound in BOUNDS {
-            for (x, y, want, first, second) in [
-                (9, 10, 28, true, false),
-                (10, 10, 30, false, false),
-                (11, 10, 20, false, true),
-            ] {
-                let r = run(rt.alloc(), &f, b"f", &two(rt.alloc(), x, y)?, bound)?;
-                assert_eq!(rt; result_of(&r), Some(want), "at {x} and {y}");
-                assert!(rt;
-                    r.events.as_slice()
-                        == [SourceEvent::If(first), SourceEvent::If(second)].as_slice()
-                );
-            }
-        }
-        Ok(())
-    }
-
-    #[test]
-    fn no_entry_and_no_fit(rt: HostRuntime) -> Result<(), NoMemory> {
-        let f = two_ifs(rt.alloc())?;
-        for bound in BOUNDS {
-            let args = two(rt.alloc(), 1, 2)?;
-            assert!(rt; is_undefined(&run(rt.alloc(), &f, b"g", &args, bound)?));
-            let args = one(rt.alloc())?;
-            assert!(rt; is_undefined(&run(rt.alloc(), &f, b"f", &args, bound)?));
-            let args = wide(rt.alloc())?;
-            assert!(rt; is_undefined(&run(rt.alloc(), &f, b"f", &args, bound)?));
-        }
-        Ok(())
-    }
-
-    #[test]
-    fn widths_that_differ(rt: HostRuntime) -> Result<(), NoMemory> {
-        let f = mixed(rt.alloc())?;
-        for bound in BOUNDS {
-            let args = two(rt.alloc(), 1, 2)?;
-            assert!(rt; is_undefined(&run(rt.alloc(), &f, b"f", &args, bound)?));
-        }
-        Ok(())
-    }
 }

@@ -1,16 +1,22 @@
-//! The source language: its forms, its trees, what forms spell, and what the trees mean.
+//! The source language: its trees, what forms spell, its limits, and what the trees mean.
 #![tactic(auto)]
 
 mod evaluate;
 mod event;
-mod form;
+mod limit;
+mod number;
 mod run;
 mod tree;
 mod value;
+mod words;
 
 pub use evaluate::evaluate_source;
 pub use event::SourceEvent;
-pub use form::Form;
+pub use limit::LimitKind;
+pub use number::number_at;
 pub use run::SourceRun;
-pub use tree::{BinOp, CmpOp, Def, Expr, Field, IntTy, SourceFile, Ty};
+pub use tree::{
+    Arm, BinOp, Case, CmpOp, Con, Def, Expr, Field, IntTy, Item, Pat, Slot, SourceFile, Ty,
+};
 pub use value::{Value, Variable};
+pub use words::{bin_word, bool_word, cmp_word, int_word, shift_word};

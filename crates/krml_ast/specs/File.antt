@@ -1,0 +1,17 @@
+-- What a text spells.
+use Rattle.std.specs.Prelude.{◌≡◌, ℕ, ◌≤◌, List, length, None}
+use Rattle.krml_forms.specs.declared.form.Form.{Form}
+use Rattle.krml_forms.specs.Levels.{AllWithin}
+use Rattle.krml_forms.specs.Text.{HasForms}
+use Rattle.krml_ast.specs.declared.tree.SourceFile.{SourceFile}
+use Rattle.krml_ast.specs.Limits.{first_excess}
+use Rattle.krml_ast.specs.Spelling.{SpellsDefs}
+
+-- A text spells a file within the limits.
+pub record SpellsFile (text : List ℕ) (file : SourceFile) : Type 0 where
+  pub forms : List Form
+  pub short : length text ≤ 1048576
+  pub has : HasForms text forms
+  pub levels : AllWithin 64 forms
+  pub spelled : SpellsDefs forms file.defs
+  pub limits : first_excess forms file.defs ≡ None
