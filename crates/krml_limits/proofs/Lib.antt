@@ -1,0 +1,3 @@
+pub mod Above
+pub mod Levels
+pub mod Within

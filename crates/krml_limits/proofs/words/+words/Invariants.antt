@@ -1,0 +1,7 @@
+use Rattle.std.proofs.Common.{◌≡◌, drop}
+use Rattle.std.specs.List.{flat_map}
+use Rattle.krml_ast.specs.Limits.{first_above, word_lengths}
+use Rattle.krml_limits.proofs.words.+words.Given as goal
+
+abbrev pub invariant-long_word_of-loop-form : goal.invariant-long_word_of-loop-form
+invariant-long_word_of-loop-form l = first_above l.limit (flat_map word_lengths (drop l.form-index l.forms)) ≡ first_above l.limit (flat_map word_lengths l.forms)
