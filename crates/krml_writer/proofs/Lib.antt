@@ -1,0 +1,5 @@
+pub mod Alike
+pub mod WordBytes
+pub mod Kept
+pub mod Respelled
+pub mod Limits
