@@ -1,74 +1,95 @@
--- What a form is read as: a parameter, a definition.
-use Rattle.std.specs.Prelude.{◌≡◌, Bool, true, false, if◌then◌else◌, List, [], ◌∷◌, ◌++◌, Option, Some, None, Result, Ok, Err}
-use Rattle.krml_ast.specs.declared.form.Form.{Form, out-Form}
-use Rattle.krml_ast.specs.declared.form.Form.TheOpen.{Form-F}
+-- What a form is read as: a definition.
+use Rattle.std.specs.Prelude.{ℕ, List, [], ◌∷◌, Option, Some, None}
+use Rattle.krml_forms.specs.declared.form.Form.{Form, out-Form}
 use Rattle.krml_ast.specs.declared.tree.Field.{Field}
+use Rattle.krml_ast.specs.declared.tree.Con.{Con}
 use Rattle.krml_ast.specs.declared.tree.Def.{Def}
 use Rattle.krml_ast.specs.declared.tree.Def.TheVariants as d
-use Rattle.krml_reader.specs.declared.refusal.ReadRefusal.{ReadRefusal}
-use Rattle.krml_reader.specs.declared.refusal.ReadRefusal.TheVariants.{NotBuilt, NoMemory}
+use Rattle.krml_ast.specs.Read.{◌>>=◌}
 use Rattle.krml_reader.specs.declared.keyword.Keyword.{Keyword}
 use Rattle.krml_reader.specs.declared.keyword.Keyword.TheVariants as k
+use Rattle.krml_reader.specs.Gives.{each_of, list_in, below}
 use Rattle.krml_reader.specs.Keyword.{keyword_at}
-use Rattle.krml_reader.specs.Reading.{◌>>=◌, name_at, ty_at, expr_at}
+use Rattle.krml_reader.specs.Words.{name_at, var_at, int_at, number_of_width}
+use Rattle.krml_reader.specs.Types.{ty_at, tys_of}
+use Rattle.krml_reader.specs.Expression.{expr_at}
 
--- ---- parameters
+-- ---- type variables
 
-abbrev pub field_by : List Form → Option Field
-field_by (name ∷ ty ∷ []) = do
+abbrev pub vars_of : List Form → Option (List (List ℕ))
+vars_of fs = each_of var_at fs
+
+abbrev pub vars_at : Form → Option (List (List ℕ))
+vars_at f = list_in vars_of (out-Form f)
+
+-- ---- fields and parameters
+
+abbrev pub field_by : ℕ → List Form → Option Field
+field_by n (name ∷ ty ∷ []) = do
   x ← name_at name
-  a ← ty_at ty
+  a ← ty_at n ty
   Some (record { name = x; ty = a })
-field_by _ = None
+field_by n _ = None
 
-abbrev pub field_in : Form-F Form → Option Field
-field_in (Form-F.Atom w) = None
-field_in (Form-F.List fs) = field_by fs
+-- a field of so many levels
+abbrev pub field_at : ℕ → Form → Option Field
+field_at n f = list_in (below field_by n) (out-Form f)
 
-abbrev pub field_at : Form → Option Field
-field_at f = field_in (out-Form f)
+abbrev pub fields_of : ℕ → List Form → Option (List Field)
+fields_of n fs = each_of (field_at n) fs
 
--- those before, and then what the forms are read as
-unfoldable pub fields_after : List Field → List Form → Option (List Field)
-fields_after done [] = Some done
-fields_after done (f ∷ fs) = do
-  p ← field_at f
-  fields_after (done ++ p ∷ []) fs
+abbrev pub fields_at : ℕ → Form → Option (List Field)
+fields_at n f = list_in (below fields_of n) (out-Form f)
 
-abbrev pub fields_of : List Form → Option (List Field)
-fields_of fs = fields_after [] fs
+-- ---- constructors
 
--- What a call that was given a form answered, and left.
-abbrev pub AddsField : List Field → Form → Result (Unit {0}) ReadRefusal → List Field → Type 0
-AddsField old f (Ok u) new = (fs : List Form) → fields_after old (f ∷ fs) ≡ fields_after new fs
-AddsField old f (Err NotBuilt) new = (fs : List Form) → fields_after old (f ∷ fs) ≡ None
-AddsField old f (Err NoMemory) new = Unit {0}
+abbrev pub con_by : ℕ → List Form → Option Con
+con_by n [] = None
+con_by n (name ∷ fs) = do
+  x ← name_at name
+  bs ← tys_of n fs
+  Some (record { name = x; args = bs })
 
-abbrev pub fields_in : Form-F Form → Option (List Field)
-fields_in (Form-F.Atom w) = None
-fields_in (Form-F.List fs) = fields_of fs
+abbrev pub con_at : ℕ → Form → Option Con
+con_at n f = list_in (below con_by n) (out-Form f)
 
-abbrev pub fields_at : Form → Option (List Field)
-fields_at f = fields_in (out-Form f)
+abbrev pub cons_of : ℕ → List Form → Option (List Con)
+cons_of n fs = each_of (con_at n) fs
 
--- ---- definitions
+-- ---- definitions, whose lists have 64 levels at most, and those in them 63
 
-abbrev pub is_nothing_in : Form-F Form → Bool
-is_nothing_in (Form-F.List []) = true
-is_nothing_in _ = false
+abbrev pub struct_of : List Form → Option Def
+struct_of (name ∷ vars ∷ f ∷ fs) = do
+  x ← name_at name
+  vs ← vars_at vars
+  bs ← fields_of 63 (f ∷ fs)
+  Some (d.Struct x vs bs)
+struct_of _ = None
 
--- an empty list
-abbrev pub is_nothing : Form → Bool
-is_nothing f = is_nothing_in (out-Form f)
+abbrev pub sum_of : List Form → Option Def
+sum_of (name ∷ vars ∷ f ∷ fs) = do
+  x ← name_at name
+  vs ← vars_at vars
+  bs ← cons_of 63 (f ∷ fs)
+  Some (d.Sum x vs bs)
+sum_of _ = None
+
+abbrev pub table_of : List Form → Option Def
+table_of (name ∷ ty ∷ f ∷ fs) = do
+  x ← name_at name
+  i ← int_at ty
+  ns ← each_of (number_of_width i.width) (f ∷ fs)
+  Some (d.Table x i ns)
+table_of _ = None
 
 abbrev pub fun_of : List Form → Option Def
-fun_of (name ∷ vars ∷ params ∷ result ∷ body ∷ []) =
-    if is_nothing vars then (do
-      x ← name_at name
-      ps ← fields_at params
-      a ← ty_at result
-      b ← expr_at 63 body
-      Some (d.Fun x [] ps a b)) else None
+fun_of (name ∷ vars ∷ params ∷ result ∷ body ∷ []) = do
+  x ← name_at name
+  vs ← vars_at vars
+  ps ← fields_at 63 params
+  a ← ty_at 63 result
+  b ← expr_at 63 body
+  Some (d.Fun x vs ps a b)
 fun_of _ = None
 
 abbrev pub entry_of : List Form → Option Def
@@ -77,32 +98,17 @@ entry_of (name ∷ []) = do
   Some (d.Entry x)
 entry_of _ = None
 
-abbrev pub definition_by : Option Keyword → List Form → Option Def
-definition_by (Some k.Fun) rest = fun_of rest
-definition_by (Some k.Entry) rest = entry_of rest
-definition_by _ rest = None
+abbrev pub behind : Option Keyword → List Form → Option Def
+behind (Some k.Struct) rest = struct_of rest
+behind (Some k.Sum) rest = sum_of rest
+behind (Some k.Table) rest = table_of rest
+behind (Some k.Fun) rest = fun_of rest
+behind (Some k.Entry) rest = entry_of rest
+behind _ rest = None
 
 abbrev pub def_by : List Form → Option Def
 def_by [] = None
-def_by (head ∷ rest) = definition_by (keyword_at head) rest
-
-abbrev pub def_in : Form-F Form → Option Def
-def_in (Form-F.Atom w) = None
-def_in (Form-F.List fs) = def_by fs
+def_by (head ∷ rest) = behind (keyword_at head) rest
 
 abbrev pub def_at : Form → Option Def
-def_at f = def_in (out-Form f)
-
-unfoldable pub defs_after : List Def → List Form → Option (List Def)
-defs_after done [] = Some done
-defs_after done (f ∷ fs) = do
-  p ← def_at f
-  defs_after (done ++ p ∷ []) fs
-
-abbrev pub defs_of : List Form → Option (List Def)
-defs_of fs = defs_after [] fs
-
-abbrev pub AddsDef : List Def → Form → Result (Unit {0}) ReadRefusal → List Def → Type 0
-AddsDef old f (Ok u) new = (fs : List Form) → defs_after old (f ∷ fs) ≡ defs_after new fs
-AddsDef old f (Err NotBuilt) new = (fs : List Form) → defs_after old (f ∷ fs) ≡ None
-AddsDef old f (Err NoMemory) new = Unit {0}
+def_at f = list_in def_by (out-Form f)

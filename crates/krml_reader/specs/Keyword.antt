@@ -3,22 +3,48 @@ use Rattle.std.specs.Prelude.{ℕ, true, false, if◌then◌else◌, List, [], �
 use Rattle.std.specs.Str.{bytes_eq}
 use Rattle.krml_trace.specs.declared.width.Width.{Width}
 use Rattle.krml_trace.specs.declared.width.Width.TheVariants.{W8, W32, W64}
-use Rattle.krml_ast.specs.declared.form.Form.{Form, out-Form}
-use Rattle.krml_ast.specs.declared.form.Form.TheOpen.{Form-F}
-use Rattle.krml_ast.specs.declared.tree.BinOp.TheVariants.{Add}
-use Rattle.krml_ast.specs.declared.tree.CmpOp.TheVariants.{Lt}
-use Rattle.krml_ast.specs.Spelling.{int_word, bin_word, cmp_word}
+use Rattle.krml_forms.specs.declared.form.Form.{Form, out-Form}
+use Rattle.krml_forms.specs.declared.form.Form.TheOpen.{Form-F}
+use Rattle.krml_ast.specs.declared.tree.BinOp.TheVariants as binop
+use Rattle.krml_ast.specs.declared.tree.CmpOp.TheVariants as cmpop
+use Rattle.krml_ast.specs.Spelling.{int_word, bool_word, bin_word, shift_word, cmp_word}
 use Rattle.krml_reader.specs.declared.keyword.Keyword.{Keyword}
 use Rattle.krml_reader.specs.declared.keyword.Keyword.TheVariants as k
 
 -- how each is written
 abbrev pub spelling : Keyword → List ℕ
 spelling (k.Int i) = int_word i
+spelling (k.Truth b) = bool_word b
 spelling (k.Bin op) = bin_word op
+spelling (k.Shift left) = shift_word left
 spelling (k.Cmp op) = cmp_word op
+spelling k.Not = codes "not"
+spelling k.Cast = codes "cast"
+spelling k.Hide = codes "hide"
+spelling k.Make = codes "make"
+spelling k.Get = codes "get"
+spelling k.Con = codes "con"
+spelling k.Read = codes "read"
+spelling k.Write = codes "write"
+spelling k.Slice = codes "slice"
+spelling k.Tab = codes "tab"
 spelling k.If = codes "if"
+spelling k.Match = codes "match"
+spelling k.Do = codes "do"
+spelling k.Frame = codes "frame"
+spelling k.Alloc = codes "alloc"
+spelling k.While = codes "while"
+spelling k.For = codes "for"
+spelling k.Call = codes "call"
+spelling k.Let = codes "let"
+spelling k.Struct = codes "struct"
+spelling k.Sum = codes "sum"
+spelling k.Table = codes "table"
 spelling k.Fun = codes "fun"
 spelling k.Entry = codes "entry"
+spelling k.Buf = codes "buf"
+spelling k.Boolean = codes "bool"
+spelling k.Unit = codes "unit"
 
 abbrev pub public : Width → Keyword
 public w = k.Int (record { width = w; secret = false })
@@ -27,7 +53,8 @@ abbrev pub secret : Width → Keyword
 secret w = k.Int (record { width = w; secret = true })
 
 abbrev pub keywords : List Keyword
-keywords = public W8 ∷ public W32 ∷ public W64 ∷ secret W8 ∷ secret W32 ∷ secret W64 ∷ k.Bin Add ∷ k.Cmp Lt ∷ k.If ∷ k.Fun ∷ k.Entry ∷ []
+keywords =
+    public W8 ∷ public W32 ∷ public W64 ∷ secret W8 ∷ secret W32 ∷ secret W64 ∷ k.Truth true ∷ k.Truth false ∷ k.Bin binop.Add ∷ k.Bin binop.Sub ∷ k.Bin binop.Mul ∷ k.Bin binop.Div ∷ k.Bin binop.Rem ∷ k.Bin binop.And ∷ k.Bin binop.Or ∷ k.Bin binop.Xor ∷ k.Bin binop.EqMask ∷ k.Bin binop.GteMask ∷ k.Shift true ∷ k.Shift false ∷ k.Cmp cmpop.Eq ∷ k.Cmp cmpop.Ne ∷ k.Cmp cmpop.Lt ∷ k.Cmp cmpop.Le ∷ k.Cmp cmpop.Gt ∷ k.Cmp cmpop.Ge ∷ k.Not ∷ k.Cast ∷ k.Hide ∷ k.Make ∷ k.Get ∷ k.Con ∷ k.Read ∷ k.Write ∷ k.Slice ∷ k.Tab ∷ k.If ∷ k.Match ∷ k.Do ∷ k.Frame ∷ k.Alloc ∷ k.While ∷ k.For ∷ k.Call ∷ k.Let ∷ k.Struct ∷ k.Sum ∷ k.Table ∷ k.Fun ∷ k.Entry ∷ k.Buf ∷ k.Boolean ∷ k.Unit ∷ []
 
 abbrev pub first_of_those : List Keyword → List ℕ → Option Keyword
 first_of_those [] w = None

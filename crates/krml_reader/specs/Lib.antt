@@ -1,8 +1,9 @@
-pub mod Cut
+pub mod Answer
 pub mod Definition
-pub mod First
+pub mod Expression
+pub mod Gives
 pub mod Keyword
-pub mod Nest
-pub mod Number
+pub mod Pattern
 pub mod Read
-pub mod Reading
+pub mod Types
+pub mod Words

@@ -1,33 +1,54 @@
--- What a text is read as.
-use Rattle.std.specs.Prelude.{ℕ, Bool, if◌then◌else◌, nat_lt, nat_le, List, length, Option, Some, None, Result, Ok, Err}
-use Rattle.std.specs.List.{list_all}
-use Rattle.krml_ast.specs.declared.form.Form.{Form}
+-- What reading a text comes to.
+use Rattle.std.specs.Prelude.{◌≡◌, ℕ, ◌<◌, ◌≤◌, if◌then◌else◌, nat_lt, List, ◌∷◌, ◌++◌, length, Some, Result, Ok, Err}
+use Rattle.krml_forms.specs.declared.form.Form.{Form}
+use Rattle.krml_forms.specs.Text.{HasForms}
+use Rattle.krml_forms.specs.Levels.{AllWithin}
+use Rattle.krml_forms.specs.Faults.{IsFaultAt, IsDeepAt, HasNone, IsFirst}
+use Rattle.krml_ast.specs.declared.limit.LimitKind.{LimitKind}
+use Rattle.krml_ast.specs.declared.tree.Def.{Def}
 use Rattle.krml_ast.specs.declared.tree.SourceFile.{SourceFile}
-use Rattle.krml_ast.specs.Levels.{form_count}
-use Rattle.krml_ast.specs.First.{SpellsFirst}
+use Rattle.krml_ast.specs.Spelling.{SpellsDef, SpellsDefs}
+use Rattle.krml_ast.specs.Limits.{first_excess}
+use Rattle.krml_ast.specs.File.{SpellsFile}
+use Rattle.krml_writer.specs.Written.{text_of}
 use Rattle.krml_reader.specs.declared.refusal.ReadRefusal.{ReadRefusal}
-use Rattle.krml_reader.specs.declared.refusal.ReadRefusal.TheVariants.{NotBuilt, NoMemory}
-use Rattle.krml_reader.specs.Cut.{forms_of}
-use Rattle.krml_reader.specs.Reading.{◌>>=◌}
-use Rattle.krml_reader.specs.Definition.{defs_of}
-use Rattle.krml_reader.specs.First.{is_first_file}
+use Rattle.krml_reader.specs.declared.refusal.ReadRefusal.TheVariants.{TooLarge, Syntax, Nesting, Shape, Limit, NoMemory}
 
-abbrev pub are_small : List Form → Bool
-are_small fs = list_all (λ f. nat_le (form_count f) 8000) fs
+abbrev pub IsShort : List ℕ → Type 0
+IsShort text = length text ≤ 1048576
 
-abbrev pub if_first : SourceFile → Option SourceFile
-if_first file = if is_first_file file then Some file else None
+-- A short text of forms that have 64 levels at most.
+abbrev pub IsFormed : List ℕ → List Form → Type 0
+IsFormed text forms = IsShort text × HasForms text forms × AllWithin 64 forms
 
-abbrev pub file_of : List Form → Option SourceFile
-file_of fs = if are_small fs then (do
-  defs ← defs_of fs
-  if_first (record { defs = defs })) else None
+-- The file that a text spells, or the first cause, in this order, why it spells none.
+pub data Reads (text : List ℕ) : Result SourceFile ReadRefusal → Type 0 where
+  -- more than 1,048,576 bytes
+  too_large : 1048576 < length text → Reads text (Err TooLarge)
+  -- the first fault by place
+  syntax : {at : ℕ} → IsShort text → IsFirst (IsFaultAt text) at → Reads text (Err (Syntax at))
+  -- no fault, and the first `(` of a 65th level
+  nesting : {at : ℕ} → IsShort text → HasNone (IsFaultAt text) → IsFirst (IsDeepAt text) at → Reads text (Err (Nesting at))
+  -- each form before one spells a definition, and that one spells none
+  shape : (before : List Form) (f : Form) (after : List Form) {defs : List Def} → IsFormed text (before ++ f ∷ after) → SpellsDefs before defs
+      → ((def : Def) → SpellsDef f def → ⊥) → Reads text (Err (Shape (length before)))
+  -- the forms spell definitions, and a limit is exceeded
+  limit : {forms : List Form} {defs : List Def} {which : LimitKind} {count : ℕ} → IsFormed text forms → SpellsDefs forms defs
+      → first_excess forms defs ≡ Some (which, count) → Reads text (Err (Limit which count))
+  -- a file within the limits
+  file : {read : SourceFile} → SpellsFile text read → Reads text (Ok read)
 
-abbrev pub read_of : List ℕ → Option SourceFile
-read_of text = if nat_lt 1048576 (length text) then None else (forms_of text >>= file_of)
+-- What a call answered is what reading the text comes to, unless memory ran out.
+abbrev pub IsRead : List ℕ → Result SourceFile ReadRefusal → Type 0
+IsRead text (Err NoMemory) = Unit {0}
+IsRead text answer = Reads text answer
 
--- The text spells no first file where NotBuilt was answered.
-abbrev pub Refuses : List ℕ → Result SourceFile ReadRefusal → Type 0
-Refuses text (Ok file) = Unit {0}
-Refuses text (Err NotBuilt) = (file : SourceFile) → SpellsFirst text file → ⊥
-Refuses text (Err NoMemory) = Unit {0}
+-- The same of what it refused.
+abbrev pub IsRefused : List ℕ → Result SourceFile ReadRefusal → Type 0
+IsRefused text (Ok read) = Unit {0}
+IsRefused text (Err NoMemory) = Unit {0}
+IsRefused text (Err refusal) = Reads text (Err refusal)
+
+-- What reading the written text of a file comes to, where a text within the limits spells the file.
+abbrev pub read_back : SourceFile → Result SourceFile ReadRefusal
+read_back read = if nat_lt 1048576 (length (text_of read)) then Err TooLarge else Ok read

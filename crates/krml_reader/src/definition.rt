@@ -1,93 +1,255 @@
 ghost use Rattle.std.specs.Prelude.{◌≡◌};
-ghost use Rattle.krml_reader.specs.Reading.{Gives};
-ghost use Rattle.krml_reader.specs.Definition.{is_nothing, field_by, field_at, AddsField, fields_of, fields_at, fun_of, entry_of, def_by, def_at, AddsDef, defs_of};
+ghost use Rattle.krml_reader.specs.Gives.{Gives, Adds, each_of, below};
+ghost use Rattle.krml_reader.specs.Words.{var_at, number_of_width};
+ghost use Rattle.krml_reader.specs.Definition.{vars_of, vars_at, field_by, field_at, fields_of, fields_at, con_by, con_at, cons_of, struct_of, sum_of, table_of, fun_of, entry_of, def_by, def_at};
 
 use crate::expression::expr_at;
 use crate::keyword::{Keyword, keyword_at};
 use crate::name::name_at;
-use crate::refusal::ReadRefusal;
-use crate::types::ty_at;
-use krml_ast::{Def, Field, Form};
-use krml_trace::Seq;
+use crate::no_tree::NoTree;
+use crate::types::{ty_at, tys_of};
+use crate::words::{int_at, number_of_width, var_at};
+use krml_ast::{Con, Def, Field};
+use krml_forms::Form;
+use krml_trace::{Name, Seq, Width};
 use std::alloc::Global;
 
 /// How many levels a list in a definition may have.
 const MAX_INNER_LEVELS: u32 = 63;
 
-/// `(NAME T)`.
-fn field(alloc: Global, forms: &[Form]) -> Result<Field, ReadRefusal>
-    ensures { Gives result (field_by forms.now) }
+#[tactic(auto, unfolding(crate::specs::Gives::each_after))]
+fn add_var(alloc: Global, vars: &mut Seq<Name>, form: &Form) -> Result<(), NoTree>
+    ensures { Adds var_at vars.old form.now result vars.new }
 {
-    let [name, ty] = forms else {
-        return Err(ReadRefusal::NotBuilt);
-    };
-    let name = name_at(alloc, name)?;
-    let ty = ty_at(ty)?;
-    Ok(Field { name, ty })
+    let var = var_at(alloc, form)?;
+    vars.push(var)?;
+    Ok(())
 }
 
-fn field_at(alloc: Global, form: &Form) -> Result<Field, ReadRefusal>
-    ensures { Gives result (field_at form.now) }
+#[tactic(auto, unfolding(crate::specs::Gives::each_after))]
+fn vars_of(alloc: Global, forms: &[Form]) -> Result<Seq<Name>, NoTree>
+    ensures { Gives result (vars_of forms.now) }
+{
+    let mut vars = Seq::new(alloc);
+    for form in forms {
+        add_var(alloc, &mut vars, form)?;
+    }
+    Ok(vars)
+}
+
+/// `('a..)`, type variables.
+fn vars_at(alloc: Global, form: &Form) -> Result<Seq<Name>, NoTree>
+    ensures { Gives result (vars_at form.now) }
 {
     match form {
-        Form::Atom(_) => Err(ReadRefusal::NotBuilt),
-        Form::List(forms) => field(alloc, forms.as_slice()),
+        Form::Atom(_) => Err(NoTree::Unspelled),
+        Form::List(forms) => vars_of(alloc, forms.as_slice()),
     }
 }
 
-#[tactic(auto, unfolding(crate::specs::Definition::fields_after))]
-fn add_field(alloc: Global, fields: &mut Seq<Field>, form: &Form) -> Result<(), ReadRefusal>
-    ensures { AddsField fields.old form.now result fields.new }
+fn field_by(alloc: Global, levels: u32, forms: &[Form]) -> Result<Field, NoTree>
+    ensures { Gives result (field_by levels forms.now) }
 {
-    let field = field_at(alloc, form)?;
+    let [name, ty] = forms else {
+        return Err(NoTree::Unspelled);
+    };
+    let name = name_at(alloc, name)?;
+    let ty = ty_at(alloc, levels, ty)?;
+    Ok(Field { name, ty })
+}
+
+fn field_below(alloc: Global, levels: u32, forms: &[Form]) -> Result<Field, NoTree>
+    ensures { Gives result (below field_by levels forms.now) }
+{
+    if levels == 0 {
+        return Err(NoTree::Unspelled);
+    }
+    field_by(alloc, levels - 1, forms)
+}
+
+/// `(NAME T)`, a field or a parameter.
+fn field_at(alloc: Global, levels: u32, form: &Form) -> Result<Field, NoTree>
+    ensures { Gives result (field_at levels form.now) }
+{
+    match form {
+        Form::Atom(_) => Err(NoTree::Unspelled),
+        Form::List(forms) => field_below(alloc, levels, forms.as_slice()),
+    }
+}
+
+#[tactic(auto, unfolding(crate::specs::Gives::each_after))]
+fn add_field(alloc: Global, levels: u32, fields: &mut Seq<Field>, form: &Form) -> Result<(), NoTree>
+    ensures { Adds (field_at levels) fields.old form.now result fields.new }
+{
+    let field = field_at(alloc, levels, form)?;
     fields.push(field)?;
     Ok(())
 }
 
-#[tactic(auto, unfolding(crate::specs::Definition::fields_after))]
-fn fields_of(alloc: Global, forms: &[Form]) -> Result<Seq<Field>, ReadRefusal>
-    ensures { Gives result (fields_of forms.now) }
+#[tactic(auto, unfolding(crate::specs::Gives::each_after))]
+fn fields_of(alloc: Global, levels: u32, forms: &[Form]) -> Result<Seq<Field>, NoTree>
+    ensures { Gives result (fields_of levels forms.now) }
 {
     let mut fields = Seq::new(alloc);
     for form in forms {
-        add_field(alloc, &mut fields, form)?;
+        add_field(alloc, levels, &mut fields, form)?;
     }
     Ok(fields)
 }
 
-fn fields_at(alloc: Global, form: &Form) -> Result<Seq<Field>, ReadRefusal>
-    ensures { Gives result (fields_at form.now) }
+fn fields_below(alloc: Global, levels: u32, forms: &[Form]) -> Result<Seq<Field>, NoTree>
+    ensures { Gives result (below fields_of levels forms.now) }
+{
+    if levels == 0 {
+        return Err(NoTree::Unspelled);
+    }
+    fields_of(alloc, levels - 1, forms)
+}
+
+/// `((PARAM T)..)`.
+fn fields_at(alloc: Global, levels: u32, form: &Form) -> Result<Seq<Field>, NoTree>
+    ensures { Gives result (fields_at levels form.now) }
 {
     match form {
-        Form::Atom(_) => Err(ReadRefusal::NotBuilt),
-        Form::List(forms) => fields_of(alloc, forms.as_slice()),
+        Form::Atom(_) => Err(NoTree::Unspelled),
+        Form::List(forms) => fields_below(alloc, levels, forms.as_slice()),
     }
 }
 
-fn is_nothing(form: &Form) -> bool
-    ensures { result ≡ is_nothing form.now }
+fn con_by(alloc: Global, levels: u32, forms: &[Form]) -> Result<Con, NoTree>
+    ensures { Gives result (con_by levels forms.now) }
+{
+    let [name, args @ ..] = forms else {
+        return Err(NoTree::Unspelled);
+    };
+    let name = name_at(alloc, name)?;
+    let args = tys_of(alloc, levels, args)?;
+    Ok(Con { name, args })
+}
+
+fn con_below(alloc: Global, levels: u32, forms: &[Form]) -> Result<Con, NoTree>
+    ensures { Gives result (below con_by levels forms.now) }
+{
+    if levels == 0 {
+        return Err(NoTree::Unspelled);
+    }
+    con_by(alloc, levels - 1, forms)
+}
+
+/// `(CON T..)`.
+fn con_at(alloc: Global, levels: u32, form: &Form) -> Result<Con, NoTree>
+    ensures { Gives result (con_at levels form.now) }
 {
     match form {
-        Form::Atom(_) => false,
-        Form::List(forms) => forms.is_empty(),
+        Form::Atom(_) => Err(NoTree::Unspelled),
+        Form::List(forms) => con_below(alloc, levels, forms.as_slice()),
     }
 }
 
-/// `(fun NAME () ((PARAM T)..) T EXPR)`, behind its keyword.
-fn fun(alloc: Global, rest: &[Form]) -> Result<Def, ReadRefusal>
+#[tactic(auto, unfolding(crate::specs::Gives::each_after))]
+fn add_con(alloc: Global, levels: u32, cons: &mut Seq<Con>, form: &Form) -> Result<(), NoTree>
+    ensures { Adds (con_at levels) cons.old form.now result cons.new }
+{
+    let con = con_at(alloc, levels, form)?;
+    cons.push(con)?;
+    Ok(())
+}
+
+#[tactic(auto, unfolding(crate::specs::Gives::each_after))]
+fn cons_of(alloc: Global, levels: u32, forms: &[Form]) -> Result<Seq<Con>, NoTree>
+    ensures { Gives result (cons_of levels forms.now) }
+{
+    let mut cons = Seq::new(alloc);
+    for form in forms {
+        add_con(alloc, levels, &mut cons, form)?;
+    }
+    Ok(cons)
+}
+
+#[tactic(auto, unfolding(crate::specs::Gives::each_after))]
+fn add_number(width: Width, numbers: &mut Seq<u64>, form: &Form) -> Result<(), NoTree>
+    ensures { Adds (number_of_width width) numbers.old form.now result numbers.new }
+{
+    match number_of_width(width, form) {
+        Some(number) => Ok(numbers.push(number)?),
+        None => Err(NoTree::Unspelled),
+    }
+}
+
+/// Numbers of a width.
+#[tactic(auto, unfolding(crate::specs::Gives::each_after))]
+fn numbers_of(alloc: Global, width: Width, forms: &[Form]) -> Result<Seq<u64>, NoTree>
+    ensures { Gives result (each_of (number_of_width width) forms.now) }
+{
+    let mut numbers = Seq::new(alloc);
+    for form in forms {
+        add_number(width, &mut numbers, form)?;
+    }
+    Ok(numbers)
+}
+
+/// `(struct NAME ('a..) (FIELD T)..)`, behind its keyword.
+fn structure(alloc: Global, rest: &[Form]) -> Result<Def, NoTree>
+    ensures { Gives result (struct_of rest.now) }
+{
+    let [name, vars, fields @ ..] = rest else {
+        return Err(NoTree::Unspelled);
+    };
+    if fields.is_empty() {
+        return Err(NoTree::Unspelled);
+    }
+    let name = name_at(alloc, name)?;
+    let vars = vars_at(alloc, vars)?;
+    let fields = fields_of(alloc, MAX_INNER_LEVELS, fields)?;
+    Ok(Def::Struct { name, vars, fields })
+}
+
+/// `(sum NAME ('a..) (CON T..)..)`, behind its keyword.
+fn sum(alloc: Global, rest: &[Form]) -> Result<Def, NoTree>
+    ensures { Gives result (sum_of rest.now) }
+{
+    let [name, vars, cons @ ..] = rest else {
+        return Err(NoTree::Unspelled);
+    };
+    if cons.is_empty() {
+        return Err(NoTree::Unspelled);
+    }
+    let name = name_at(alloc, name)?;
+    let vars = vars_at(alloc, vars)?;
+    let cons = cons_of(alloc, MAX_INNER_LEVELS, cons)?;
+    Ok(Def::Sum { name, vars, cons })
+}
+
+/// `(table NAME I N..)`, behind its keyword.
+fn table(alloc: Global, rest: &[Form]) -> Result<Def, NoTree>
+    ensures { Gives result (table_of rest.now) }
+{
+    let [name, ty, nums @ ..] = rest else {
+        return Err(NoTree::Unspelled);
+    };
+    if nums.is_empty() {
+        return Err(NoTree::Unspelled);
+    }
+    let name = name_at(alloc, name)?;
+    let Some(ty) = int_at(ty) else {
+        return Err(NoTree::Unspelled);
+    };
+    let nums = numbers_of(alloc, ty.width, nums)?;
+    Ok(Def::Table { name, ty, nums })
+}
+
+/// `(fun NAME ('a..) ((PARAM T)..) T EXPR)`, behind its keyword.
+fn fun(alloc: Global, rest: &[Form]) -> Result<Def, NoTree>
     ensures { Gives result (fun_of rest.now) }
 {
     let [name, vars, params, result, body] = rest else {
-        return Err(ReadRefusal::NotBuilt);
+        return Err(NoTree::Unspelled);
     };
-    if !is_nothing(vars) {
-        return Err(ReadRefusal::NotBuilt);
-    }
     let name = name_at(alloc, name)?;
-    let params = fields_at(alloc, params)?;
-    let result = ty_at(result)?;
+    let vars = vars_at(alloc, vars)?;
+    let params = fields_at(alloc, MAX_INNER_LEVELS, params)?;
+    let result = ty_at(alloc, MAX_INNER_LEVELS, result)?;
     let body = expr_at(alloc, MAX_INNER_LEVELS, body)?;
-    let vars = Seq::new(alloc);
     Ok(Def::Fun {
         name,
         vars,
@@ -98,55 +260,38 @@ fn fun(alloc: Global, rest: &[Form]) -> Result<Def, ReadRefusal>
 }
 
 /// `(entry NAME)`, behind its keyword.
-fn entry(alloc: Global, rest: &[Form]) -> Result<Def, ReadRefusal>
+fn entry(alloc: Global, rest: &[Form]) -> Result<Def, NoTree>
     ensures { Gives result (entry_of rest.now) }
 {
     let [name] = rest else {
-        return Err(ReadRefusal::NotBuilt);
+        return Err(NoTree::Unspelled);
     };
     let name = name_at(alloc, name)?;
     Ok(Def::Entry { name })
 }
 
-fn def(alloc: Global, forms: &[Form]) -> Result<Def, ReadRefusal>
+fn def_by(alloc: Global, forms: &[Form]) -> Result<Def, NoTree>
     ensures { Gives result (def_by forms.now) }
 {
     let [head, rest @ ..] = forms else {
-        return Err(ReadRefusal::NotBuilt);
+        return Err(NoTree::Unspelled);
     };
     match keyword_at(head) {
+        Some(Keyword::Struct) => structure(alloc, rest),
+        Some(Keyword::Sum) => sum(alloc, rest),
+        Some(Keyword::Table) => table(alloc, rest),
         Some(Keyword::Fun) => fun(alloc, rest),
         Some(Keyword::Entry) => entry(alloc, rest),
-        _ => Err(ReadRefusal::NotBuilt),
+        _ => Err(NoTree::Unspelled),
     }
 }
 
-fn def_at(alloc: Global, form: &Form) -> Result<Def, ReadRefusal>
+/// The definition that a form of 64 levels at most spells.
+pub fn def_at(alloc: Global, form: &Form) -> Result<Def, NoTree>
     ensures { Gives result (def_at form.now) }
 {
     match form {
-        Form::Atom(_) => Err(ReadRefusal::NotBuilt),
-        Form::List(forms) => def(alloc, forms.as_slice()),
+        Form::Atom(_) => Err(NoTree::Unspelled),
+        Form::List(forms) => def_by(alloc, forms.as_slice()),
     }
-}
-
-#[tactic(auto, unfolding(crate::specs::Definition::defs_after))]
-fn add_def(alloc: Global, defs: &mut Seq<Def>, form: &Form) -> Result<(), ReadRefusal>
-    ensures { AddsDef defs.old form.now result defs.new }
-{
-    let def = def_at(alloc, form)?;
-    defs.push(def)?;
-    Ok(())
-}
-
-/// The definitions that forms spell.
-#[tactic(auto, unfolding(crate::specs::Definition::defs_after))]
-pub fn defs_of(alloc: Global, forms: &[Form]) -> Result<Seq<Def>, ReadRefusal>
-    ensures { Gives result (defs_of forms.now) }
-{
-    let mut defs = Seq::new(alloc);
-    for form in forms {
-        add_def(alloc, &mut defs, form)?;
-    }
-    Ok(defs)
 }

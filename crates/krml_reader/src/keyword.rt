@@ -1,22 +1,49 @@
 ghost use Rattle.std.specs.Prelude.{◌≡◌};
-ghost use Rattle.krml_ast.specs.Spelling.{int_word, bin_word, cmp_word};
 ghost use Rattle.krml_reader.specs.Keyword.{spelling, first_of_those, keyword_of, keyword_at};
 
-use krml_ast::{BinOp, CmpOp, Form, IntTy};
+use krml_ast::{BinOp, CmpOp, IntTy, bin_word, bool_word, cmp_word, int_word, shift_word};
+use krml_forms::Form;
 use krml_trace::Width;
 
 /// A word of the language.
 #[derive(Clone, Copy, Debug)]
 pub enum Keyword {
     Int(IntTy),
+    Truth(bool),
     Bin(BinOp),
+    /// A shift, to the left where it is true.
+    Shift(bool),
     Cmp(CmpOp),
+    Not,
+    Cast,
+    Hide,
+    Make,
+    Get,
+    Con,
+    Read,
+    Write,
+    Slice,
+    Tab,
     If,
+    Match,
+    Do,
+    Frame,
+    Alloc,
+    While,
+    For,
+    Call,
+    Let,
+    Struct,
+    Sum,
+    Table,
     Fun,
     Entry,
+    Buf,
+    Boolean,
+    Unit,
 }
 
-const KEYWORDS: [Keyword; 11] = [
+const KEYWORDS: [Keyword; 53] = [
     Keyword::Int(IntTy {
         width: Width::W8,
         secret: false,
@@ -41,52 +68,91 @@ const KEYWORDS: [Keyword; 11] = [
         width: Width::W64,
         secret: true,
     }),
+    Keyword::Truth(true),
+    Keyword::Truth(false),
     Keyword::Bin(BinOp::Add),
+    Keyword::Bin(BinOp::Sub),
+    Keyword::Bin(BinOp::Mul),
+    Keyword::Bin(BinOp::Div),
+    Keyword::Bin(BinOp::Rem),
+    Keyword::Bin(BinOp::And),
+    Keyword::Bin(BinOp::Or),
+    Keyword::Bin(BinOp::Xor),
+    Keyword::Bin(BinOp::EqMask),
+    Keyword::Bin(BinOp::GteMask),
+    Keyword::Shift(true),
+    Keyword::Shift(false),
+    Keyword::Cmp(CmpOp::Eq),
+    Keyword::Cmp(CmpOp::Ne),
     Keyword::Cmp(CmpOp::Lt),
+    Keyword::Cmp(CmpOp::Le),
+    Keyword::Cmp(CmpOp::Gt),
+    Keyword::Cmp(CmpOp::Ge),
+    Keyword::Not,
+    Keyword::Cast,
+    Keyword::Hide,
+    Keyword::Make,
+    Keyword::Get,
+    Keyword::Con,
+    Keyword::Read,
+    Keyword::Write,
+    Keyword::Slice,
+    Keyword::Tab,
     Keyword::If,
+    Keyword::Match,
+    Keyword::Do,
+    Keyword::Frame,
+    Keyword::Alloc,
+    Keyword::While,
+    Keyword::For,
+    Keyword::Call,
+    Keyword::Let,
+    Keyword::Struct,
+    Keyword::Sum,
+    Keyword::Table,
     Keyword::Fun,
     Keyword::Entry,
+    Keyword::Buf,
+    Keyword::Boolean,
+    Keyword::Unit,
 ];
-
-fn int_word(ty: IntTy) -> &'static [u8]
-    ensures { result.now ≡ int_word ty }
-{
-    match (ty.width, ty.secret) {
-        (Width::W8, false) => b"u8",
-        (Width::W32, false) => b"u32",
-        (Width::W64, false) => b"u64",
-        (Width::W8, true) => b"su8",
-        (Width::W32, true) => b"su32",
-        (Width::W64, true) => b"su64",
-    }
-}
-
-fn bin_word(op: BinOp) -> &'static [u8]
-    ensures { result.now ≡ bin_word op }
-{
-    match op {
-        BinOp::Add => b"add",
-    }
-}
-
-fn cmp_word(op: CmpOp) -> &'static [u8]
-    ensures { result.now ≡ cmp_word op }
-{
-    match op {
-        CmpOp::Lt => b"lt",
-    }
-}
 
 fn spelling(keyword: Keyword) -> &'static [u8]
     ensures { result.now ≡ spelling keyword }
 {
     match keyword {
         Keyword::Int(ty) => int_word(ty),
+        Keyword::Truth(b) => bool_word(b),
         Keyword::Bin(op) => bin_word(op),
+        Keyword::Shift(left) => shift_word(left),
         Keyword::Cmp(op) => cmp_word(op),
+        Keyword::Not => b"not",
+        Keyword::Cast => b"cast",
+        Keyword::Hide => b"hide",
+        Keyword::Make => b"make",
+        Keyword::Get => b"get",
+        Keyword::Con => b"con",
+        Keyword::Read => b"read",
+        Keyword::Write => b"write",
+        Keyword::Slice => b"slice",
+        Keyword::Tab => b"tab",
         Keyword::If => b"if",
+        Keyword::Match => b"match",
+        Keyword::Do => b"do",
+        Keyword::Frame => b"frame",
+        Keyword::Alloc => b"alloc",
+        Keyword::While => b"while",
+        Keyword::For => b"for",
+        Keyword::Call => b"call",
+        Keyword::Let => b"let",
+        Keyword::Struct => b"struct",
+        Keyword::Sum => b"sum",
+        Keyword::Table => b"table",
         Keyword::Fun => b"fun",
         Keyword::Entry => b"entry",
+        Keyword::Buf => b"buf",
+        Keyword::Boolean => b"bool",
+        Keyword::Unit => b"unit",
     }
 }
 
@@ -101,8 +167,9 @@ fn first_of_those(keywords: &[Keyword], word: &[u8]) -> Option<Keyword>
     None
 }
 
+/// The keyword that a word is.
 #[tactic(auto, unfolding(crate::specs::Keyword::keyword_of))]
-fn keyword_of(word: &[u8]) -> Option<Keyword>
+pub fn keyword_of(word: &[u8]) -> Option<Keyword>
     ensures { result ≡ keyword_of word.now }
 {
     first_of_those(&KEYWORDS, word)

@@ -1,22 +1,22 @@
-//! Reads the text of a program: bytes as forms, forms as a tree.
+//! Reads the text of a program, its forms as trees, and writes it back.
 #![tactic(auto)]
 
-mod comments;
-mod cutter;
 mod definition;
 mod expression;
-mod first;
-mod forms;
 mod keyword;
 mod name;
-mod nest;
-mod number;
+mod no_tree;
+mod pattern;
 mod read;
 mod refusal;
 mod types;
+mod words;
+mod written;
 
-pub use read::{one_file, read_file};
+pub use krml_writer::write_file;
+pub use read::{one_answer, one_definition, one_file, read_file};
 pub use refusal::ReadRefusal;
+pub use written::written_is_read;
 
 #[cfg(test)]
 mod tests;

@@ -1,12 +1,25 @@
+use krml_ast::LimitKind;
 use krml_trace::NoMemory;
 use thiserror::Error;
 
-/// Why no file was read.
+/// Why no file was read. The cause that stands first here is answered, where there are several.
 #[derive(Debug, Drop, Error)]
 pub enum ReadRefusal {
-    /// The text spells no program of the part of the language that is built.
-    #[error("this program is not built")]
-    NotBuilt,
+    /// The text has more than 1,048,576 bytes.
+    #[error("the text is too large")]
+    TooLarge,
+    /// The byte of the first fault of syntax, counted from 0.
+    #[error("syntax fault at byte {at}")]
+    Syntax { at: u64 },
+    /// The byte of the first `(` of a 65th level, counted from 0.
+    #[error("nesting too deep at byte {at}")]
+    Nesting { at: u64 },
+    /// The first form of the text that spells no definition, counted from 0.
+    #[error("form {form} spells no definition")]
+    Shape { form: u32 },
+    /// The first kind of limit that is exceeded, and the count at the first place where it is.
+    #[error("a count of {count} is past its limit")]
+    Limit { which: LimitKind, count: u64 },
     #[error("out of memory")]
     NoMemory,
 }

@@ -1,8 +1,21 @@
 use crate::read::read_file;
 use crate::refusal::ReadRefusal;
-use krml_ast::{Def, Expr, SourceFile};
+use krml_ast::{Def, LimitKind, SourceFile};
 use krml_trace::NoMemory;
+use krml_writer::write_file;
 use std::alloc::Global;
+use std::test::Fail;
+
+/// What reading a text should come to.
+#[derive(Clone, Copy, Debug)]
+enum Want {
+    File,
+    TooLarge,
+    Syntax(u64),
+    Nesting(u64),
+    Shape(u32),
+    Limit(LimitKind, u64),
+}
 
 /// The pieces in a row, each as often as it says.
 fn text_of(alloc: Global, pieces: &[(&[u8], usize)]) -> Result<Vec<u8>, NoMemory> {
@@ -15,252 +28,683 @@ fn text_of(alloc: Global, pieces: &[(&[u8], usize)]) -> Result<Vec<u8>, NoMemory
     Ok(text)
 }
 
-fn is_not_built(answer: &Result<SourceFile, ReadRefusal>) -> bool {
-    matches!(answer, Err(ReadRefusal::NotBuilt))
-}
-
-/// The value of the body, where it is a literal.
-fn literal(file: &SourceFile) -> Option<u64> {
-    match file.defs.as_slice() {
-        [Def::Fun { body, .. }, _] => match body {
-            Expr::Num(_, value) => Some(*value),
-            _ => None,
-        },
-        _ => None,
+fn is_wanted(answer: &Result<SourceFile, ReadRefusal>, want: Want) -> bool {
+    match (answer, want) {
+        (Ok(_), Want::File) => true,
+        (Err(ReadRefusal::TooLarge), Want::TooLarge) => true,
+        (Err(ReadRefusal::Syntax { at }), Want::Syntax(place)) => *at == place,
+        (Err(ReadRefusal::Nesting { at }), Want::Nesting(place)) => *at == place,
+        (Err(ReadRefusal::Shape { form }), Want::Shape(index)) => *form == index,
+        (Err(ReadRefusal::Limit { which, count }), Want::Limit(kind, number)) => {
+            *which == kind && *count == number
+        }
+        _ => false,
     }
 }
 
+/// The first of these forms that is not read as wanted where it stands between these texts.
+fn first_wrong(
+    alloc: Global,
+    around: (&[u8], &[u8]),
+    forms: &[&[u8]],
+    want: Want,
+) -> Result<Option<usize>, NoMemory> {
+    for (i, form) in forms.iter().enumerate() {
+        let text = text_of(alloc, &[(around.0, 1), (form, 1), (around.1, 1)])?;
+        if !is_wanted(&read_file(alloc, text.as_slice()), want) {
+            return Ok(Some(i));
+        }
+    }
+    Ok(None)
+}
+
+const NUMBER: (&[u8], &[u8]) = (b"(table t u64 ", b")");
+
+const TYPE: (&[u8], &[u8]) = (b"(fun f () ((x ", b")) unit unit)");
+
+const PATTERN: (&[u8], &[u8]) = (b"(fun f () () unit (match x (", b" unit)))");
+
+const EXPRESSION: (&[u8], &[u8]) = (b"(fun f () () unit ", b")");
+
 #[test]
-fn reads_literals(rt: HostRuntime) {
+fn reads_words_types_and_patterns(rt: HostRuntime) -> Result<(), Fail> {
     let alloc = rt.alloc();
-    let cases: [(&[u8], u64); 7] = [
-        (b"(fun f () () u32 (u32 0)) (entry f)", 0),
-        (b"(fun f()()u32(u32 7))(entry f)", 7),
-        (
-            b"; (\n(fun f () () u32 (u32 4294967295)) ; )\n(entry f);",
-            4_294_967_295,
-        ),
-        (b"\t(fun\r\n f () () u32 (u32 0x0)) (entry f)\n", 0),
-        (b"(fun f () () u32 (u32 0xfF)) (entry f)", 255),
-        (
-            b"(fun f () ((f u32) (F_0 u32)) u32 (u32 0x00000001)) (entry f)",
-            1,
-        ),
-        (
-            b"(fun f () () u32 (u32 0x00000000deadBEEF)) (entry f)",
-            3_735_928_559,
-        ),
+    let numbers: [&[u8]; 8] = [
+        b"0",
+        b"9",
+        b"10",
+        b"18446744073709551615",
+        b"0x0",
+        b"0xfF",
+        b"0x0000000000000001",
+        b"0xffffffffffffffff",
     ];
-    for (text, value) in cases {
-        let file = read_file(alloc, text).expect(&rt, "a file");
-        assert_eq!(rt; literal(&file), Some(value));
-    }
+    let no_numbers: [&[u8]; 12] = [
+        b"00",
+        b"01",
+        b"0x",
+        b"0X1",
+        b"0xg",
+        b"0x00000000000000001",
+        b"18446744073709551616",
+        b"1_0",
+        b"'1",
+        b"a",
+        b"ff",
+        b"(1)",
+    ];
+    let types: [&[u8]; 20] = [
+        b"bool",
+        b"unit",
+        b"u8",
+        b"u32",
+        b"u64",
+        b"su8",
+        b"su32",
+        b"su64",
+        b"(buf u8)",
+        b"(buf (buf bool))",
+        b"'a",
+        b"'add",
+        b"'Z_9",
+        b"Pair",
+        b"add",
+        b"u128",
+        b"(Pair u8)",
+        b"(Pair 'a (Pair unit))",
+        b"(add u8 u8)",
+        b"(Pair;\nu8)",
+    ];
+    let no_types: [&[u8]; 21] = [
+        b"u16",
+        b"su16",
+        b"buf",
+        b"true",
+        b"()",
+        b"(buf)",
+        b"(buf u8 u8)",
+        b"(u8)",
+        b"(u8 u8)",
+        b"(Pair)",
+        b"(bool u8)",
+        b"('a u8)",
+        b"((Pair) u8)",
+        b"(Pair (buf))",
+        b"''a",
+        b"'",
+        b"'u8",
+        b"'1",
+        b"a'",
+        b"1",
+        b"_a",
+    ];
+    let patterns: [&[u8]; 14] = [
+        b"_",
+        b"x",
+        b"true",
+        b"false",
+        b"add",
+        b"con",
+        b"(u8 0)",
+        b"(u8 255)",
+        b"(su64 0xffffffffffffffff)",
+        b"(con C)",
+        b"(con C _ x (make S))",
+        b"(make S)",
+        b"(make S false (con C (u32 1)))",
+        b"(con con con)",
+    ];
+    let no_patterns: [&[u8]; 20] = [
+        b"unit",
+        b"u8",
+        b"u16",
+        b"buf",
+        b"__",
+        b"1",
+        b"'a",
+        b"()",
+        b"(_)",
+        b"(true)",
+        b"(C x)",
+        b"(u8)",
+        b"(u8 256)",
+        b"(u8 01)",
+        b"(u8 1 2)",
+        b"(u16 1)",
+        b"(con)",
+        b"(con true)",
+        b"(con (C))",
+        b"(make)",
+    ];
+    assert_eq!(rt; first_wrong(alloc, NUMBER, &numbers, Want::File)?, None);
+    assert_eq!(rt;
+        first_wrong(alloc, NUMBER, &no_numbers, Want::Shape(0))?,
+        None
+    );
+    assert_eq!(rt; first_wrong(alloc, TYPE, &types, Want::File)?, None);
+    assert_eq!(rt; first_wrong(alloc, TYPE, &no_types, Want::Shape(0))?, None);
+    assert_eq!(rt; first_wrong(alloc, PATTERN, &patterns, Want::File)?, None);
+    assert_eq!(rt;
+        first_wrong(alloc, PATTERN, &no_patterns, Want::Shape(0))?,
+        None
+    );
+    Ok(())
 }
 
 #[test]
-fn refuses_what_is_no_first_file(rt: HostRuntime) {
+fn reads_expressions(rt: HostRuntime) -> Result<(), Fail> {
     let alloc = rt.alloc();
-    let texts: [&[u8]; 29] = [
+    let forms: [&[u8]; 54] = [
+        b"x",
+        b"add",
+        b"unit",
+        b"true",
+        b"false",
+        b"(u8 255)",
+        b"(u32 4294967295)",
+        b"(u64 18446744073709551615)",
+        b"(su8 0x00ff)",
+        b"(add u8 x y)",
+        b"(sub su8 x y)",
+        b"(mul u32 x y)",
+        b"(div u64 x y)",
+        b"(rem u8 x y)",
+        b"(and su32 x y)",
+        b"(or su64 x y)",
+        b"(xor u8 x y)",
+        b"(eqmask u8 x y)",
+        b"(gtemask u8 x y)",
+        b"(shl u8 x y)",
+        b"(shr su64 x y)",
+        b"(eq u8 x y)",
+        b"(ne u8 x y)",
+        b"(lt u8 x y)",
+        b"(le u8 x y)",
+        b"(gt u8 x y)",
+        b"(ge u8 x y)",
+        b"(not x)",
+        b"(cast u8 su64 x)",
+        b"(hide u8 x)",
+        b"(make S ())",
+        b"(make S (u8 'a) x unit)",
+        b"(get f x)",
+        b"(con C ())",
+        b"(con C ((buf u8)) x)",
+        b"(read x y)",
+        b"(write x y z)",
+        b"(slice x y z)",
+        b"(tab t x)",
+        b"(if x y z)",
+        b"(match x (_ y))",
+        b"(match x ((con C a) y) (_ (match x (_ y))))",
+        b"(do x y)",
+        b"(do (let x u8 y) z)",
+        b"(do x (let y (buf u8) z) (do x y) unit)",
+        b"(frame x)",
+        b"(alloc u8 1 x)",
+        b"(alloc (buf 'a) 65536 (alloc u8 0x1 x))",
+        b"(while x y)",
+        b"(for i x y z)",
+        b"(call f ())",
+        b"(call f (u8 (S 'a)) x (call g ()))",
+        b"(make make (make) make)",
+        b"(add\nu8;\n(u8 1)(u8 2))",
+    ];
+    let no_forms: [&[u8]; 39] = [
+        b"u8",
+        b"buf",
+        b"bool",
+        b"1",
+        b"'a",
+        b"_",
+        b"()",
+        b"(x)",
+        b"(unit)",
+        b"(true)",
+        b"(u8)",
+        b"(u8 256)",
+        b"(u32 4294967296)",
+        b"(u64 18446744073709551616)",
+        b"(u8 1 1)",
+        b"(u16 1)",
+        b"(u8 x)",
+        b"(add u8 x)",
+        b"(add u8 x y z)",
+        b"(add x y)",
+        b"(add u16 x y)",
+        b"(add bool x y)",
+        b"(shl u8 x)",
+        b"(lt x y)",
+        b"(not)",
+        b"(not x y)",
+        b"(cast u8 x)",
+        b"(cast u8 bool x)",
+        b"(hide x)",
+        b"(make S)",
+        b"(make S x)",
+        b"(make true ())",
+        b"(make S ((u8)))",
+        b"(get 1 x)",
+        b"(get f)",
+        b"(con C)",
+        b"(con (C) ())",
+        b"(sum x y)",
+        b"(cases)",
+    ];
+    let no_steps: [&[u8]; 38] = [
+        b"(read x)",
+        b"(read x y z)",
+        b"(write x y)",
+        b"(slice x y)",
+        b"(tab (t) x)",
+        b"(tab t)",
+        b"(if x y)",
+        b"(if x y z z)",
+        b"(match)",
+        b"(match x)",
+        b"(match x y)",
+        b"(match x (_))",
+        b"(match x (_ y z))",
+        b"(match x (_ y) (1 y))",
+        b"(do)",
+        b"(do x)",
+        b"(do (let x u8 y))",
+        b"(do (let x u8) y)",
+        b"(do (let x u8 y y) z)",
+        b"(do (let true u8 y) z)",
+        b"(do (let x 1 y) z)",
+        b"(do x (let y u8 z))",
+        b"(let x u8 y)",
+        b"(frame)",
+        b"(frame x y)",
+        b"(frame () x)",
+        b"(alloc u8 0 x)",
+        b"(alloc u8 4294967296 x)",
+        b"(alloc u8 x)",
+        b"(alloc 1 1 x)",
+        b"(while x)",
+        b"(for i x y)",
+        b"(for 1 x y z)",
+        b"(call f)",
+        b"(call f x)",
+        b"(call 1 ())",
+        b"(fill 1 x)",
+        b"(part C 0 x)",
+    ];
+    assert_eq!(rt; first_wrong(alloc, EXPRESSION, &forms, Want::File)?, None);
+    assert_eq!(rt;
+        first_wrong(alloc, EXPRESSION, &no_forms, Want::Shape(0))?,
+        None
+    );
+    assert_eq!(rt;
+        first_wrong(alloc, EXPRESSION, &no_steps, Want::Shape(0))?,
+        None
+    );
+    Ok(())
+}
+
+#[test]
+fn reads_definitions(rt: HostRuntime) -> Result<(), Fail> {
+    let alloc = rt.alloc();
+    let texts: [&[u8]; 15] = [
         b"",
+        b"; nothing",
         b"(entry f)",
-        b"(fun f () () u32 (u32 7))",
-        b"(fun f () () u32 (u32 7)) (entry g)",
-        b"(fun f () () u32 (u32 7)) (entry f) (entry f)",
-        b"(entry f) (fun f () () u32 (u32 7))",
-        b"(fun f () () u32 (u32 7)) (entry f))",
-        b"(fun f () () u32 (u32 7)) (entry f",
-        b"(fun f () () u32 (u32 7)) (entry f) \"",
-        b"(fun f () () u32 (u32 7)) (entry f) \x80",
-        b"(fun f () () u32 (u32 4294967296)) (entry f)",
-        b"(fun f () () u32 (u32 18446744073709551616)) (entry f)",
-        b"(fun f () () u32 (u32 07)) (entry f)",
-        b"(fun f () () u32 (u32 0x)) (entry f)",
-        b"(fun f () () u32 (u32 0x00000000000000001)) (entry f)",
-        b"(fun f () () u32 (u32 0x100000000)) (entry f)",
-        b"(fun f () () u32 (u32 0X1)) (entry f)",
-        b"(fun f () () u32 (u32 0xg)) (entry f)",
-        b"(fun f () ((a u32) (b u32) (a u32)) u32 a) (entry f)",
-        b"(fun f () ((a u64)) u32 (u32 1)) (entry f)",
-        b"(fun f () ((a u32)) u64 a) (entry f)",
-        b"(fun f (v) ((a u32)) u32 a) (entry f)",
-        b"(fun f () ((a u32)) u32 b) (entry f)",
-        b"(fun f () ((u32 u32)) u32 (u32 1)) (entry f)",
-        b"(fun true () () u32 (u32 1)) (entry true)",
-        b"(fun f' () () u32 (u32 1)) (entry f')",
-        b"(fun f () ((a u32)) u32 (lt u32 a a)) (entry f)",
-        b"(fun f () ((a u32)) u32 (if a a a)) (entry f)",
-        b"(fun f () ((a u32)) u32 (add su32 a a)) (entry f)",
+        b"(entry entry)",
+        b"(entry f) ; )\n(entry f)",
+        b"(struct S () (f u8))",
+        b"(struct S ('a 'b) (f 'a) (g (buf (S 'b unit))))",
+        b"(sum S () (A))",
+        b"(sum S ('a) (A) (B u8 'a))",
+        b"(table t u8 0)",
+        b"(table t su64 1 0xF 18446744073709551615)",
+        b"(fun f () () u8 (u8 1))",
+        b"(fun f ('a) ((x 'a) (y u8)) 'a x)",
+        b"(fun f()()unit unit)(entry f)",
+        b"(fun\tfun\r\n()((fun u8)) u8 fun)",
     ];
-    for text in texts {
-        assert!(rt; is_not_built(&read_file(alloc, text)));
-    }
+    let no_texts: [&[u8]; 38] = [
+        b"f",
+        b"()",
+        b"(f)",
+        b"((entry f))",
+        b"(Entry f)",
+        b"(entry)",
+        b"(entry f g)",
+        b"(entry u8)",
+        b"(entry (f))",
+        b"(entry f')",
+        b"(struct S)",
+        b"(struct S ())",
+        b"(struct S (f u8))",
+        b"(struct S (a) (f u8))",
+        b"(struct S 'a (f u8))",
+        b"(struct S () f)",
+        b"(struct S () (f))",
+        b"(struct S () (f u8 u8))",
+        b"(struct S () (1 u8))",
+        b"(struct true () (f u8))",
+        b"(sum S ())",
+        b"(sum S () A)",
+        b"(sum S () ())",
+        b"(sum S () (A 1))",
+        b"(table t u8)",
+        b"(table t u8 256)",
+        b"(table t u8 x)",
+        b"(table t u8 00)",
+        b"(table t 1)",
+        b"(table t bool 1)",
+        b"(fun f () () u8)",
+        b"(fun f () u8 (u8 1))",
+        b"(fun f () () u8 (u8 1) (u8 2))",
+        b"(fun f (a) () u8 (u8 1))",
+        b"(fun f () (x) u8 (u8 1))",
+        b"(fun f () x u8 (u8 1))",
+        b"(fun 1 () () u8 (u8 1))",
+        b"(let x u8 y)",
+    ];
+    assert_eq!(rt; first_wrong(alloc, (b"", b""), &texts, Want::File)?, None);
+    assert_eq!(rt;
+        first_wrong(alloc, (b"", b""), &no_texts, Want::Shape(0))?,
+        None
+    );
+    assert_eq!(rt;
+        first_wrong(alloc, (b"(entry f)", b" x"), &no_texts, Want::Shape(1))?,
+        None
+    );
+    assert_eq!(rt;
+        first_wrong(alloc, (b"", b" x"), &texts[2..4], Want::Shape(1))?,
+        None
+    );
+    Ok(())
 }
 
 #[test]
-fn keeps_to_the_limits(rt: HostRuntime) {
-    let alloc = rt.alloc();
-    let cases: [(&[(&[u8], usize)], bool); 11] = [
-        // levels
+fn gives_the_numbers_of_a_table(rt: HostRuntime) {
+    let text = b"(table t u64 0 7 0xfF 0x00000000deadBEEF 18446744073709551615)";
+    let file = read_file(rt.alloc(), text).expect(&rt, "a file");
+    let want = [0, 7, 255, 3_735_928_559, 18_446_744_073_709_551_615];
+    assert!(rt;
+        match file.defs.as_slice() {
+            [Def::Table { nums, .. }] => nums.as_slice() == want.as_slice(),
+            _ => false,
+        }
+    );
+}
+
+#[test]
+fn answers_the_first_cause(rt: HostRuntime) -> Result<(), Fail> {
+    let cases: [(&[(&[u8], usize)], Want); 18] = [
+        (&[(b" ", 1_048_576)], Want::File),
+        (&[(b" ", 1_048_577)], Want::TooLarge),
+        (&[(b"(", 1_048_577)], Want::TooLarge),
+        (&[(b"(", 1_048_576)], Want::Syntax(1_048_576)),
+        (&[(b";(\"\x80\n(entry f)", 1)], Want::File),
+        (&[(b"(entry f", 1)], Want::Syntax(8)),
+        (&[(b"(entry f) \"", 1)], Want::Syntax(10)),
+        (&[(b"x )", 1)], Want::Syntax(2)),
+        (&[(b"(", 65), (b")", 66)], Want::Syntax(130)),
+        (&[(b"x ", 1), (b"(", 65), (b")", 65)], Want::Nesting(66)),
+        (&[(b"(", 64), (b")", 64)], Want::Shape(0)),
+        (&[(b"x ", 524_288)], Want::Shape(0)),
+        (&[(b"(entry f)", 3), (b"x y", 1)], Want::Shape(3)),
+        (&[(b"(entry f)", 2_001), (b"x", 1)], Want::Shape(2_001)),
+        (&[(b"(entry ", 1), (b"f", 65), (b") x", 1)], Want::Shape(1)),
         (
             &[
-                (b"(fun f () () u32 ", 1),
-                (b"(add u32 (u32 1) ", 62),
-                (b"(u32 1)", 1),
-                (b")", 63),
-                (b"(entry f)", 1),
-            ],
-            true,
-        ),
-        (
-            &[
-                (b"(fun f () () u32 ", 1),
-                (b"(add u32 (u32 1) ", 63),
-                (b"(u32 1)", 1),
+                (b"(fun f () () bool ", 1),
+                (b"(not ", 63),
+                (b"x", 1),
                 (b")", 64),
-                (b"(entry f)", 1),
             ],
-            false,
+            Want::File,
         ),
-        (&[(b"(", 524_288), (b")", 524_288)], false),
-        // names
         (
             &[
-                (b"(fun ", 1),
-                (b"f", 64),
-                (b" () () u32 (u32 1)) (entry ", 1),
-                (b"f", 64),
+                (b"(fun f () () bool ", 1),
+                (b"(not ", 64),
+                (b"x", 1),
+                (b")", 65),
+            ],
+            Want::Nesting(333),
+        ),
+        (
+            &[
+                (b"(struct S () (f ", 1),
+                (b"(buf ", 62),
+                (b"u8", 1),
+                (b")", 64),
+            ],
+            Want::File,
+        ),
+    ];
+    for (pieces, want) in cases {
+        let text = text_of(rt.alloc(), pieces)?;
+        let answer = read_file(rt.alloc(), text.as_slice());
+        assert!(rt; is_wanted(&answer, want), "{want:?}");
+    }
+    Ok(())
+}
+
+#[test]
+fn keeps_to_the_limits(rt: HostRuntime) -> Result<(), Fail> {
+    // what stands before and behind as many as may be of a piece, and what is answered where there is one more
+    let limits: [(&[u8], &[u8], &[u8], usize, LimitKind, u64); 14] = [
+        (b"", b"(entry f)", b"", 2_000, LimitKind::Definitions, 2_001),
+        (b"(entry ", b"f", b")", 64, LimitKind::Name, 65),
+        (b"(struct S ('", b"a", b") (f u8))", 64, LimitKind::Name, 65),
+        (b"(struct S () (f '", b"a", b"))", 64, LimitKind::Name, 65),
+        (
+            b"(fun f () () unit (call g () ",
+            b"x ",
+            b"))",
+            7_990,
+            LimitKind::Forms,
+            8_001,
+        ),
+        (
+            b"(struct S (",
+            b"'a ",
+            b") (f u8))",
+            8,
+            LimitKind::Variables,
+            9,
+        ),
+        (b"(sum S (", b"'a ", b") (A))", 8, LimitKind::Variables, 9),
+        (
+            b"(fun f (",
+            b"'a ",
+            b") () unit unit)",
+            8,
+            LimitKind::Variables,
+            9,
+        ),
+        (
+            b"(fun f () (",
+            b"(x u8)",
+            b") unit unit)",
+            32,
+            LimitKind::Parameters,
+            33,
+        ),
+        (b"(struct S () ", b"(f u8)", b")", 24, LimitKind::Fields, 25),
+        (
+            b"(sum S () ",
+            b"(A u8)",
+            b")",
+            256,
+            LimitKind::Constructors,
+            257,
+        ),
+        (
+            b"(table t u8 ",
+            b"0 ",
+            b")",
+            65_536,
+            LimitKind::Elements,
+            65_537,
+        ),
+        // the first place where a limit is exceeded
+        (
+            b"(table t u8 ",
+            b"0 ",
+            b")(fun f () () u8 (alloc u8 65536 x))",
+            65_536,
+            LimitKind::Elements,
+            65_537,
+        ),
+        (
+            b"(fun f (",
+            b"'a ",
+            b") ((x u8)) u8 (alloc u8 65536 (alloc u8 1 x)))",
+            8,
+            LimitKind::Variables,
+            9,
+        ),
+    ];
+    for (before, piece, behind, most, which, count) in limits {
+        let within = text_of(rt.alloc(), &[(before, 1), (piece, most), (behind, 1)])?;
+        assert!(rt;
+            is_wanted(&read_file(rt.alloc(), within.as_slice()), Want::File),
+            "{which:?}"
+        );
+        let past = text_of(rt.alloc(), &[(before, 1), (piece, most + 1), (behind, 1)])?;
+        let want = Want::Limit(which, count);
+        assert!(rt;
+            is_wanted(&read_file(rt.alloc(), past.as_slice()), want),
+            "{want:?}"
+        );
+    }
+    Ok(())
+}
+
+#[test]
+fn answers_the_first_excess(rt: HostRuntime) -> Result<(), Fail> {
+    let cases: [(&[(&[u8], usize)], Want); 9] = [
+        // the order of kinds
+        (
+            &[
+                (b"(entry ", 1),
+                (b"f", 65),
+                (b")", 1),
+                (b"(entry f)", 2_000),
+            ],
+            Want::Limit(LimitKind::Definitions, 2_001),
+        ),
+        (
+            &[
+                (b"(fun f () () unit (call g () ", 1),
+                (b"x ", 7_991),
+                (b"))(entry ", 1),
+                (b"f", 65),
                 (b")", 1),
             ],
-            true,
+            Want::Limit(LimitKind::Name, 65),
         ),
-        (
-            &[
-                (b"(fun ", 1),
-                (b"f", 65),
-                (b" () () u32 (u32 1)) (entry ", 1),
-                (b"f", 65),
-                (b")", 1),
-            ],
-            false,
-        ),
-        (&[(b"a", 1_048_576)], false),
-        // bytes
-        (
-            &[
-                (b"(fun f () () u32 (u32 1)) (entry f)", 1),
-                (b" ", 1_048_541),
-            ],
-            true,
-        ),
-        (
-            &[
-                (b"(fun f () () u32 (u32 1)) (entry f)", 1),
-                (b" ", 1_048_542),
-            ],
-            false,
-        ),
-        (
-            &[
-                (b"(fun f () () u32 (u32 1)) (entry f);", 1),
-                (b"(", 1_048_540),
-            ],
-            true,
-        ),
-        // forms
-        (&[(b"a ", 524_288)], false),
-        // parameters
         (
             &[
                 (b"(fun f () (", 1),
-                (b"(a u32)", 100_000),
-                (b") u32 a) (entry f)", 1),
+                (b"(x u8)", 33),
+                (b") unit unit)(struct S (", 1),
+                (b"'a ", 9),
+                (b") (f u8))", 1),
             ],
-            false,
+            Want::Limit(LimitKind::Variables, 9),
         ),
-    ];
-    for (pieces, is_read) in cases {
-        let text = text_of(alloc, pieces).expect(&rt, "memory");
-        let answer = read_file(alloc, text.as_slice());
-        assert!(rt;
-            if is_read {
-                answer.is_ok()
-            } else {
-                is_not_built(&answer)
-            }
-        );
-    }
-}
-
-/// A balanced sum of 64 variables: 253 forms in 6 levels.
-fn sum_of_64(alloc: Global) -> Result<Vec<u8>, NoMemory> {
-    let mut sum = text_of(alloc, &[(b"a", 1)])?;
-    for _ in 0..6 {
-        let half = sum.as_slice();
-        sum = text_of(
-            alloc,
+        (
             &[
-                (b"(add u32 ", 1),
-                (half, 1),
-                (b" ", 1),
-                (half, 1),
+                (b"(table t u8 ", 1),
+                (b"0 ", 65_537),
+                (b")(sum S () ", 1),
+                (b"(A)", 257),
                 (b")", 1),
             ],
-        )?;
+            Want::Limit(LimitKind::Constructors, 257),
+        ),
+        // the first place
+        (
+            &[
+                (b"(entry ", 1),
+                (b"f", 66),
+                (b")(entry ", 1),
+                (b"f", 65),
+                (b")", 1),
+            ],
+            Want::Limit(LimitKind::Name, 66),
+        ),
+        (
+            &[(b"(fun f () () u8 (alloc u8 65537 x))", 1)],
+            Want::Limit(LimitKind::Elements, 65_537),
+        ),
+        (
+            &[(b"(fun f () () u8 (alloc u8 65538 (alloc u8 65537 x)))", 1)],
+            Want::Limit(LimitKind::Elements, 65_538),
+        ),
+        (
+            &[(b"(fun f () () u8 (alloc u8 1 (alloc u8 4294967295 x)))", 1)],
+            Want::Limit(LimitKind::Elements, 4_294_967_295),
+        ),
+        (
+            &[(b"(entry ", 1), (b"f", 1_048_568), (b")", 1)],
+            Want::Limit(LimitKind::Name, 1_048_568),
+        ),
+    ];
+    for (pieces, want) in cases {
+        let text = text_of(rt.alloc(), pieces)?;
+        let answer = read_file(rt.alloc(), text.as_slice());
+        assert!(rt; is_wanted(&answer, want), "{want:?}");
     }
-    Ok(sum)
+    Ok(())
 }
 
-/// A file whose definition has 7,988 forms in its sums, 5 words and lists beside them, and those of its parameters and
-/// of its last operand.
-fn sums(alloc: Global, params: &[u8], last: &[u8]) -> Result<Vec<u8>, NoMemory> {
-    let sum = sum_of_64(alloc)?;
-    let mut text = Vec::new(alloc);
-    text.extend_from_slice(b"(fun f () ")?;
-    text.extend_from_slice(params)?;
-    text.extend_from_slice(b" u32 ")?;
-    for _ in 0..31 {
-        text.extend_from_slice(b"(add u32 ")?;
-        text.extend_from_slice(sum.as_slice())?;
-        text.extend_from_slice(b" ")?;
+/// The written text of the file that a text spells; empty where it spells none.
+fn rewritten(alloc: Global, text: &[u8]) -> Result<Vec<u8>, NoMemory> {
+    match read_file(alloc, text) {
+        Ok(file) => write_file(alloc, &file),
+        Err(_) => Ok(Vec::new(alloc)),
     }
-    for _ in 0..13 {
-        text.extend_from_slice(b"(add u32 a ")?;
-    }
-    text.extend_from_slice(last)?;
-    for _ in 0..45 {
-        text.extend_from_slice(b")")?;
-    }
-    text.extend_from_slice(b"(entry f)")?;
-    Ok(text)
-}
-
-#[test]
-fn takes_8000_forms(rt: HostRuntime) {
-    let alloc = rt.alloc();
-    let most = sums(alloc, b"((a u32))", b"(u32 1)").expect(&rt, "memory");
-    assert!(rt; read_file(alloc, most.as_slice()).is_ok());
-    let more = sums(alloc, b"((a u32) (b u32))", b"a").expect(&rt, "memory");
-    assert!(rt; is_not_built(&read_file(alloc, more.as_slice())));
-}
-
-/// A file whose function has so many parameters.
-fn parameters(alloc: Global, count: u8) -> Result<Vec<u8>, NoMemory> {
-    let mut text = text_of(alloc, &[(b"(fun f () (", 1)])?;
-    for i in 0..count {
-        let name = [b'a' + i / 16, b'a' + i % 16];
-        text.extend_from_slice(b"(")?;
-        text.extend_from_slice(&name)?;
-        text.extend_from_slice(b" u32)")?;
-    }
-    text.extend_from_slice(b") u32 aa) (entry f)")?;
-    Ok(text)
 }
 
 #[test]
-fn takes_32_parameters(rt: HostRuntime) {
+fn writes_what_it_read(rt: HostRuntime) -> Result<(), Fail> {
     let alloc = rt.alloc();
-    let most = parameters(alloc, 32).expect(&rt, "memory");
-    assert!(rt; read_file(alloc, most.as_slice()).is_ok());
-    let more = parameters(alloc, 33).expect(&rt, "memory");
-    assert!(rt; is_not_built(&read_file(alloc, more.as_slice())));
+    let cases: [(&[u8], &[u8]); 9] = [
+        (b"", b""),
+        (b"\t( entry\nf ) ; end", b"(entry f)\n"),
+        (
+            b"(struct S('a)(f u8)(g(buf(S(S 'a)))))",
+            b"(struct S ('a) (f u8) (g (buf (S (S 'a)))))\n",
+        ),
+        (
+            b"(sum S()(A)(B bool S))(entry A)",
+            b"(sum S () (A) (B bool S))\n(entry A)\n",
+        ),
+        (
+            b"(table t su64 0x0fF 0 18446744073709551615)",
+            b"(table t su64 255 0 18446744073709551615)\n",
+        ),
+        (
+            b"(fun f()((x u32))u32(if(lt u32 x(u32 0xa))(add u32 x(u32 1))x))",
+            b"(fun f () ((x u32)) u32 (if (lt u32 x (u32 10)) (add u32 x (u32 1)) x))\n",
+        ),
+        (
+            b"(fun f('a)()unit(do(let x(buf u8)(alloc u8 0x10(u8 1)))(write x y(not z))(frame(while true unit))))",
+            b"(fun f ('a) () unit (do (let x (buf u8) (alloc u8 16 (u8 1))) (write x y (not z)) (frame (while true unit))))\n",
+        ),
+        (
+            b"(fun f()()unit(match(con C('a)(get g x))(_(call h()))((con C(make S true(su8 0x1)))(for i a b(slice x i j)))))",
+            b"(fun f () () unit (match (con C ('a) (get g x)) (_ (call h ())) ((con C (make S true (su8 1))) (for i a b (slice x i j)))))\n",
+        ),
+        (
+            b"(fun f()()unit(make S()(shr u8 x(cast u64 u32 y))(shl u8 a(hide u8 b))(read b(tab t i))false(gtemask su8 x y)))",
+            b"(fun f () () unit (make S () (shr u8 x (cast u64 u32 y)) (shl u8 a (hide u8 b)) (read b (tab t i)) false (gtemask su8 x y)))\n",
+        ),
+    ];
+    for (text, want) in cases {
+        let once = rewritten(alloc, text)?;
+        assert!(rt; once.as_slice() == want);
+        let again = rewritten(alloc, once.as_slice())?;
+        assert!(rt; again.as_slice() == want);
+    }
+    Ok(())
 }

@@ -1,26 +1,150 @@
 ghost use Rattle.std.specs.Prelude.{◌≡◌};
-ghost use Rattle.krml_reader.specs.Reading.{Gives, int_at, ty_at};
+ghost use Rattle.krml_reader.specs.Gives.{Gives, Adds, below};
+ghost use Rattle.krml_reader.specs.Types.{named_of, word_of, variable_of, atom_of, is_buf, buffer_by, applied_by, ty_at, list_at, tys_of, tys_at};
 
-use crate::keyword::{Keyword, keyword_at};
-use crate::refusal::ReadRefusal;
-use krml_ast::{Form, IntTy, Ty};
+use crate::keyword::{Keyword, keyword_at, keyword_of};
+use crate::name::{name_at, name_of};
+use crate::no_tree::NoTree;
+use krml_ast::Ty;
+use krml_forms::Form;
+use krml_trace::{Box, Seq};
+use std::alloc::Global;
 
-/// The integer type that a form is.
-pub fn int_at(form: &Form) -> Option<IntTy>
-    ensures { result ≡ int_at form.now }
+/// A struct or a sum without type arguments.
+fn named(alloc: Global, word: &[u8]) -> Result<Ty, NoTree>
+    ensures { Gives result (named_of word.now) }
 {
-    match keyword_at(form) {
-        Some(Keyword::Int(ty)) => Some(ty),
-        _ => None,
+    let name = name_of(alloc, word)?;
+    Ok(Ty::Named(name, Seq::new(alloc)))
+}
+
+fn word(alloc: Global, word: &[u8]) -> Result<Ty, NoTree>
+    ensures { Gives result (word_of word.now) }
+{
+    match keyword_of(word) {
+        Some(Keyword::Boolean) => Ok(Ty::Bool),
+        Some(Keyword::Unit) => Ok(Ty::Unit),
+        Some(Keyword::Int(ty)) => Ok(Ty::Int(ty)),
+        _ => named(alloc, word),
     }
 }
 
-/// The type that a form spells.
-pub fn ty_at(form: &Form) -> Result<Ty, ReadRefusal>
-    ensures { Gives result (ty_at form.now) }
+fn variable(alloc: Global, word: &[u8]) -> Result<Ty, NoTree>
+    ensures { Gives result (variable_of word.now) }
 {
-    match int_at(form) {
-        Some(ty) => Ok(Ty::Int(ty)),
-        None => Err(ReadRefusal::NotBuilt),
+    let name = name_of(alloc, word)?;
+    Ok(Ty::Var(name))
+}
+
+fn atom(alloc: Global, letters: &[u8]) -> Result<Ty, NoTree>
+    ensures { Gives result (atom_of letters.now) }
+{
+    match letters {
+        [b'\'', name @ ..] => variable(alloc, name),
+        _ => word(alloc, letters),
+    }
+}
+
+fn is_buf(form: &Form) -> bool
+    ensures { result ≡ is_buf form.now }
+{
+    matches!(keyword_at(form), Some(Keyword::Buf))
+}
+
+/// The type that a form spells, where the lists in it may have so many levels.
+#[cycle(ty)]
+pub fn ty_at(alloc: Global, levels: u32, form: &Form) -> Result<Ty, NoTree>
+    ensures { Gives result (ty_at levels form.now) }
+{
+    match form {
+        Form::Atom(word) => atom(alloc, word.as_slice()),
+        Form::List(forms) => list_at(alloc, levels, forms.as_slice()),
+    }
+}
+
+/// What a list spells.
+#[tactic(auto, unfolding(crate::specs::Types::list_at))]
+#[cycle(ty)]
+fn list_at(alloc: Global, levels: u32, forms: &[Form]) -> Result<Ty, NoTree>
+    ensures { Gives result (list_at levels forms.now) }
+{
+    if levels == 0 {
+        return Err(NoTree::Unspelled);
+    }
+    let levels = levels - 1;
+    let [head, rest @ ..] = forms else {
+        return Err(NoTree::Unspelled);
+    };
+    if is_buf(head) {
+        buffer(alloc, levels, rest)
+    } else {
+        applied(alloc, levels, head, rest)
+    }
+}
+
+/// `(buf T)`, behind its keyword.
+#[cycle(ty)]
+fn buffer(alloc: Global, levels: u32, rest: &[Form]) -> Result<Ty, NoTree>
+    ensures { Gives result (buffer_by (ty_at levels) rest.now) }
+{
+    let [ty] = rest else {
+        return Err(NoTree::Unspelled);
+    };
+    let ty = ty_at(alloc, levels, ty)?;
+    Ok(Ty::Buf(Box::new(alloc, ty)?))
+}
+
+/// `(NAME T..)`, with one type argument or more.
+#[cycle(ty)]
+fn applied(alloc: Global, levels: u32, head: &Form, rest: &[Form]) -> Result<Ty, NoTree>
+    ensures { Gives result (applied_by (ty_at levels) head.now rest.now) }
+{
+    if rest.is_empty() {
+        return Err(NoTree::Unspelled);
+    }
+    let name = name_at(alloc, head)?;
+    let args = tys_of(alloc, levels, rest)?;
+    Ok(Ty::Named(name, args))
+}
+
+#[tactic(auto, unfolding(crate::specs::Gives::each_after))]
+#[cycle(ty)]
+fn add_ty(alloc: Global, levels: u32, tys: &mut Seq<Ty>, form: &Form) -> Result<(), NoTree>
+    ensures { Adds (ty_at levels) tys.old form.now result tys.new }
+{
+    let ty = ty_at(alloc, levels, form)?;
+    tys.push(ty)?;
+    Ok(())
+}
+
+/// The types that forms spell, each of so many levels.
+#[tactic(auto, unfolding(crate::specs::Gives::each_after))]
+#[cycle(ty)]
+pub fn tys_of(alloc: Global, levels: u32, forms: &[Form]) -> Result<Seq<Ty>, NoTree>
+    ensures { Gives result (tys_of levels forms.now) }
+{
+    let mut tys = Seq::new(alloc);
+    for form in forms {
+        add_ty(alloc, levels, &mut tys, form)?;
+    }
+    Ok(tys)
+}
+
+fn tys_below(alloc: Global, levels: u32, forms: &[Form]) -> Result<Seq<Ty>, NoTree>
+    ensures { Gives result (below tys_of levels forms.now) }
+{
+    if levels == 0 {
+        return Err(NoTree::Unspelled);
+    }
+    tys_of(alloc, levels - 1, forms)
+}
+
+/// `(T..)`.
+pub fn tys_at(alloc: Global, levels: u32, form: &Form) -> Result<Seq<Ty>, NoTree>
+    ensures { Gives result (tys_at levels form.now) }
+{
+    match form {
+        Form::Atom(_) => Err(NoTree::Unspelled),
+        Form::List(forms) => tys_below(alloc, levels, forms.as_slice()),
     }
 }

@@ -1,6 +1,7 @@
 use Rattle.std.proofs.Common.{◌≡◌, drop}
-use Rattle.krml_reader.specs.Definition.{fields_after, fields_of}
+use Rattle.krml_reader.specs.Gives.{each_after}
+use Rattle.krml_reader.specs.Definition.{field_at, fields_of}
 use Rattle.krml_reader.proofs.definition.fields_of.Given as goal
 
 abbrev pub invariant-loop-form : goal.invariant-loop-form
-invariant-loop-form l = fields_after l.fields (drop l.form-index l.forms) ≡ fields_of l.forms
+invariant-loop-form l = each_after (field_at l.levels) l.fields (drop l.form-index l.forms) ≡ fields_of l.levels l.forms

@@ -1,4 +1,4 @@
-use Rattle.krml_reader.proofs.Exact.{is_found, is_refused}
+use Rattle.krml_reader.proofs.FileLaws.{is_found, is_refused}
 use Rattle.krml_reader.proofs.read.read_file.Goals as goal
 
 pub returns-clause-found : goal.returns-clause-found

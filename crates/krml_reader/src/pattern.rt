@@ -1,0 +1,129 @@
+ghost use Rattle.std.specs.Prelude.{◌≡◌};
+ghost use Rattle.krml_reader.specs.Gives.{Gives, Adds};
+ghost use Rattle.krml_reader.specs.Pattern.{bound_of, word_by, atom_of, number_of, parts_at, con_at, make_at, pat_at, list_at, pats_of};
+
+use crate::keyword::{Keyword, keyword_at, keyword_of};
+use crate::name::{name_at, name_of};
+use crate::no_tree::NoTree;
+use crate::words::number_of_width;
+use krml_ast::{IntTy, Pat};
+use krml_forms::Form;
+use krml_trace::{Name, Seq};
+use std::alloc::Global;
+
+fn bound(alloc: Global, word: &[u8]) -> Result<Pat, NoTree>
+    ensures { Gives result (bound_of word.now) }
+{
+    let name = name_of(alloc, word)?;
+    Ok(Pat::Bind(name))
+}
+
+fn atom(alloc: Global, word: &[u8]) -> Result<Pat, NoTree>
+    ensures { Gives result (atom_of word.now) }
+{
+    if word == b"_".as_slice() {
+        return Ok(Pat::Any);
+    }
+    match keyword_of(word) {
+        Some(Keyword::Truth(value)) => Ok(Pat::Bool(value)),
+        _ => bound(alloc, word),
+    }
+}
+
+/// `(I N)`, behind its type.
+fn number(ty: IntTy, rest: &[Form]) -> Result<Pat, NoTree>
+    ensures { Gives result (number_of ty rest.now) }
+{
+    let [digits] = rest else {
+        return Err(NoTree::Unspelled);
+    };
+    match number_of_width(ty.width, digits) {
+        Some(value) => Ok(Pat::Num(ty, value)),
+        None => Err(NoTree::Unspelled),
+    }
+}
+
+/// The pattern that a form spells, where the lists in it may have so many levels.
+#[cycle(pattern)]
+pub fn pat_at(alloc: Global, levels: u32, form: &Form) -> Result<Pat, NoTree>
+    ensures { Gives result (pat_at levels form.now) }
+{
+    match form {
+        Form::Atom(word) => atom(alloc, word.as_slice()),
+        Form::List(forms) => list_at(alloc, levels, forms.as_slice()),
+    }
+}
+
+/// What a list spells.
+#[tactic(auto, unfolding(crate::specs::Pattern::list_at))]
+#[cycle(pattern)]
+fn list_at(alloc: Global, levels: u32, forms: &[Form]) -> Result<Pat, NoTree>
+    ensures { Gives result (list_at levels forms.now) }
+{
+    if levels == 0 {
+        return Err(NoTree::Unspelled);
+    }
+    let levels = levels - 1;
+    let [head, rest @ ..] = forms else {
+        return Err(NoTree::Unspelled);
+    };
+    match keyword_at(head) {
+        Some(Keyword::Int(ty)) => number(ty, rest),
+        Some(Keyword::Con) => con(alloc, levels, rest),
+        Some(Keyword::Make) => make(alloc, levels, rest),
+        _ => Err(NoTree::Unspelled),
+    }
+}
+
+/// A name, and patterns.
+#[cycle(pattern)]
+fn parts(alloc: Global, levels: u32, rest: &[Form]) -> Result<(Name, Seq<Pat>), NoTree>
+    ensures { Gives result (parts_at levels rest.now) }
+{
+    let [name, forms @ ..] = rest else {
+        return Err(NoTree::Unspelled);
+    };
+    let name = name_at(alloc, name)?;
+    let pats = pats_of(alloc, levels, forms)?;
+    Ok((name, pats))
+}
+
+/// `(con C P..)`, behind its keyword.
+#[cycle(pattern)]
+fn con(alloc: Global, levels: u32, rest: &[Form]) -> Result<Pat, NoTree>
+    ensures { Gives result (con_at levels rest.now) }
+{
+    let (name, pats) = parts(alloc, levels, rest)?;
+    Ok(Pat::Con(name, pats))
+}
+
+/// `(make S P..)`, behind its keyword.
+#[cycle(pattern)]
+fn make(alloc: Global, levels: u32, rest: &[Form]) -> Result<Pat, NoTree>
+    ensures { Gives result (make_at levels rest.now) }
+{
+    let (name, pats) = parts(alloc, levels, rest)?;
+    Ok(Pat::Make(name, pats))
+}
+
+#[tactic(auto, unfolding(crate::specs::Gives::each_after))]
+#[cycle(pattern)]
+fn add_pat(alloc: Global, levels: u32, pats: &mut Seq<Pat>, form: &Form) -> Result<(), NoTree>
+    ensures { Adds (pat_at levels) pats.old form.now result pats.new }
+{
+    let pat = pat_at(alloc, levels, form)?;
+    pats.push(pat)?;
+    Ok(())
+}
+
+#[tactic(auto, unfolding(crate::specs::Gives::each_after))]
+#[cycle(pattern)]
+fn pats_of(alloc: Global, levels: u32, forms: &[Form]) -> Result<Seq<Pat>, NoTree>
+    ensures { Gives result (pats_of levels forms.now) }
+{
+    let mut pats = Seq::new(alloc);
+    for form in forms {
+        add_pat(alloc, levels, &mut pats, form)?;
+    }
+    Ok(pats)
+}
