@@ -26,9 +26,9 @@ Scope = List CVar
 
 -- The types of operands: unsigned integers of 32 and 64 bits. With `int` of 32 bits the integer promotions change neither
 -- (6.3.1.1p2), but they would make an `int` of a `uint8_t`.
-pub data IsWide : CType → Type 0 where
-  short : IsWide U32
-  long : IsWide U64
+pub data IsArithmetic : CType → Type 0 where
+  short : IsArithmetic U32
+  long : IsArithmetic U64
 
 -- In a scope an expression has a type.
 pub data HasType (g : Scope) : CExpr → CType → Type 0 where
@@ -36,9 +36,9 @@ pub data HasType (g : Scope) : CExpr → CType → Type 0 where
   var : (v : CVar) → Contains g v → HasType g (e.Var v.name) v.ty
   lit : (w : Width) (n : ℕ) → HasType g (e.Lit w n) (width_type w)
   -- a sum has the type of both its operands (6.3.1.8p1, 6.5.6)
-  sum : {ty : CType} {a b : CExpr} → IsWide ty → HasType g a ty → HasType g b ty → HasType g (e.Bin Add a b) ty
+  sum : {ty : CType} {a b : CExpr} → IsArithmetic ty → HasType g a ty → HasType g b ty → HasType g (e.Bin Add a b) ty
   -- a comparison of operands of one type (6.5.8) has the type of the width that it is converted to
-  cmp : (w : Width) {op : CmpKind} (ty : CType) {a b : CExpr} → IsWide ty → HasType g a ty → HasType g b ty → HasType g (e.Cmp w op a b) (width_type w)
+  cmp : (w : Width) {op : CmpKind} (ty : CType) {a b : CExpr} → IsArithmetic ty → HasType g a ty → HasType g b ty → HasType g (e.Cmp w op a b) (width_type w)
 
 -- A condition is a number of any width (6.8.4.1p1).
 pub data IsCondition (g : Scope) (a : CExpr) : Type 0 where
