@@ -14,16 +14,15 @@ use Rattle.krml_ast.specs.declared.event.SourceEvent.TheVariants as event
 use Rattle.krml_ast.specs.declared.value.Value.{Value}
 use Rattle.krml_ast.specs.declared.value.Value.TheVariants as value
 use Rattle.krml_ast.specs.declared.value.Variable.{Variable}
-use Rattle.krml_ast.specs.declared.tree.BinOp.TheVariants as bin
-use Rattle.krml_ast.specs.declared.tree.CmpOp.TheVariants as cmp
+use Rattle.krml_ast.specs.declared.tree.CmpOp.TheVariants.{Lt}
 use Rattle.krml_ast.specs.declared.tree.Expr.{Expr}
 use Rattle.krml_ast.specs.declared.tree.Expr.TheVariants as e
 use Rattle.krml_ast.specs.declared.tree.SourceFile.{SourceFile}
-use Rattle.krml_ast.specs.First.{u32, IsFirst, u32_param, IsFirstFile}
 use Rattle.krml_ast.specs.Meaning as src
 use Rattle.krml_ast.specs.Meaning.{Scope, Sem, SourceState, SourceRan, Start, look, eval, with_arguments, start, ArgumentsFit, source_run}
 use Rattle.krml_ast.proofs.Evals as is
 use Rattle.krml_ctree.proofs.Locals.{name_same}
+use Rattle.krml_cli.specs.First.{u32, IsFirst, u32_param, IsFirstFile}
 use Rattle.krml_cli.specs.Theorem.{IsDone}
 use Rattle.krml_cli.proofs.SimulationFile.{first_file}
 
@@ -71,11 +70,11 @@ operands_compute kind f a b scope ha hb s =
     rw (x.is, y.is) (record { part = f x.part y.part; after = y.after; is = refl })
 
 -- (add u32 a b)
-add_computes : (a b : Sem) (scope : Scope) → Always a_number a scope → Always a_number b scope → Always a_number (src.bin bin.Add u32 a b) scope
+add_computes : (a b : Sem) (scope : Scope) → Always a_number a scope → Always a_number b scope → Always a_number (src.sum u32 a b) scope
 add_computes a b scope ha hb = operands_compute a_number (λ m n. (m + n) % 2 ^ bits W32) a b scope ha hb
 
 -- (lt u32 a b)
-less_computes : (a b : Sem) (scope : Scope) → Always a_number a scope → Always a_number b scope → Always a_truth (src.cmp cmp.Lt u32 a b) scope
+less_computes : (a b : Sem) (scope : Scope) → Always a_number a scope → Always a_number b scope → Always a_truth (src.less u32 a b) scope
 less_computes a b scope ha hb = operands_compute a_truth (λ m n. nat_lt m n) a b scope ha hb
 
 -- (if q a b)
@@ -91,10 +90,10 @@ first_computes : (params : List (List ℕ)) (x : Expr) → IsFirst params x → 
 first_computes params x (IsFirst.param {x = y} h) scope has = rw (is.var_is y) (var_computes y scope (has y h))
 first_computes params x (IsFirst.literal {n = n} lt) scope has = rw (is.num_is u32 n) (num_computes n scope)
 first_computes params x (IsFirst.sum {a = a} {b = b} da db) scope has =
-    rw (is.bin_is bin.Add u32 a b) (add_computes (eval a) (eval b) scope (first_computes params a da scope has) (first_computes params b db scope has))
+    rw (is.sum_is u32 a b) (add_computes (eval a) (eval b) scope (first_computes params a da scope has) (first_computes params b db scope has))
 first_computes params x (IsFirst.choice {a = a} {b = b} {c = p} {d = q} da db dp dq) scope has =
-    rw (is.choose_is (e.Cmp cmp.Lt u32 a b) p q, is.cmp_is cmp.Lt u32 a b)
-    (choose_computes (src.cmp cmp.Lt u32 (eval a) (eval b)) (eval p) (eval q) scope (less_computes (eval a) (eval b) scope (first_computes params a da scope has) (first_computes params b db scope has))
+    rw (is.choose_is (e.Cmp Lt u32 a b) p q, is.less_is u32 a b)
+    (choose_computes (src.less u32 (eval a) (eval b)) (eval p) (eval q) scope (less_computes (eval a) (eval b) scope (first_computes params a da scope has) (first_computes params b db scope has))
     (first_computes params p dp scope has) (first_computes params q dq scope has))
 
 -- The scope behind the arguments, where they fit, has a number for a name.

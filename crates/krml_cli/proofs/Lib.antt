@@ -1,5 +1,6 @@
 mod Clauses
 mod Ended
+mod FirstFiles
 mod FirstRuns
 mod Known
 mod Listed
@@ -7,6 +8,7 @@ mod Simulation
 mod SimulationCode
 mod SimulationFile
 mod SimulationImages
+mod SimulationLimits
 mod SimulationLocals
 mod SimulationNames
 mod WellFormedProgram

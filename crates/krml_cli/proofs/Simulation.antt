@@ -13,11 +13,9 @@ use Rattle.krml_ast.specs.declared.event.SourceEvent.TheVariants as event
 use Rattle.krml_ast.specs.declared.value.Value.{Value}
 use Rattle.krml_ast.specs.declared.value.Value.TheVariants as value
 use Rattle.krml_ast.specs.declared.value.Variable.{Variable}
-use Rattle.krml_ast.specs.declared.tree.BinOp.TheVariants as bin
-use Rattle.krml_ast.specs.declared.tree.CmpOp.TheVariants as cmp
+use Rattle.krml_ast.specs.declared.tree.CmpOp.TheVariants.{Lt}
 use Rattle.krml_ast.specs.declared.tree.Expr.{Expr}
 use Rattle.krml_ast.specs.declared.tree.Expr.TheVariants as e
-use Rattle.krml_ast.specs.First.{u32, IsFirst}
 use Rattle.krml_ast.specs.Meaning as src
 use Rattle.krml_ast.specs.Meaning.{Scope, Sem, SourceState, SourceRan, eval}
 use Rattle.krml_ast.proofs.Evals as is
@@ -37,6 +35,7 @@ use Rattle.krml_ctree.specs.declared.tree.CStatement.TheVariants as st
 use Rattle.krml_ctree.specs.Meaning as tgt
 use Rattle.krml_ctree.specs.Meaning.{Locals, CState, CRan, local_of, the_only, set, close, value_of, exec, braces, do_one}
 use Rattle.krml_ctree.proofs.Steps as steps
+use Rattle.krml_cli.specs.First.{u32, IsFirst}
 use Rattle.krml_cli.specs.Translation
 use Rattle.krml_cli.specs.Translation.{Names, Out, Comp, numbered, code_of}
 use Rattle.krml_cli.proofs.SimulationNames.{number_of, number-numbered}
@@ -182,12 +181,12 @@ operands_fit P f of a b ca cb shape computes ha hb = record {
 }
 
 -- (add u32 a b)
-pub add_fits : (a b : Sem) (ca cb : Comp) → Fits IsU32 a ca → Fits IsU32 b cb → Fits IsU32 (src.bin bin.Add u32 a b) (Translation.binary_code (c.Bin c_bin.Add) ca cb)
+pub add_fits : (a b : Sem) (ca cb : Comp) → Fits IsU32 a ca → Fits IsU32 b cb → Fits IsU32 (src.sum u32 a b) (Translation.binary_code (c.Bin c_bin.Add) ca cb)
 add_fits a b ca cb ha hb = operands_fit IsU32 (λ m n. value.Num W32 ((m + n) % 2 ^ bits W32)) (c.Bin c_bin.Add) a b ca cb (λ m n. record { number = (m + n) % 2 ^ bits W32; is = refl })
     (λ m n x y late p q. rw (steps.bin_is c_bin.Add x y, p, q)) ha hb
 
 -- (lt u32 a b)
-pub less_fits : (a b : Sem) (ca cb : Comp) → Fits IsU32 a ca → Fits IsU32 b cb → Fits IsTruth (src.cmp cmp.Lt u32 a b) (Translation.binary_code (c.Cmp W8 c_cmp.Lt) ca cb)
+pub less_fits : (a b : Sem) (ca cb : Comp) → Fits IsU32 a ca → Fits IsU32 b cb → Fits IsTruth (src.less u32 a b) (Translation.binary_code (c.Cmp W8 c_cmp.Lt) ca cb)
 less_fits a b ca cb ha hb = operands_fit IsTruth (λ m n. value.Bool (nat_lt m n)) (c.Cmp W8 c_cmp.Lt) a b ca cb (λ m n. record { truth = nat_lt m n; is = refl })
     (λ m n x y late p q. rw (steps.cmp_is W8 c_cmp.Lt x y, p, q)) ha hb
 
@@ -217,8 +216,8 @@ branch_fits : (a : Sem) (ca : Comp) → Fits IsU32 a ca → (scope : Scope) (nam
 branch_fits a ca ha scope names n k j m r now now2 s nr le lt small_m small p be there sc =
     let oa = ca names j in
     let ga = ha.grows names j in
-    let R1 = Good IsU32 j now2 oa.value oa.next in
-    let R2 = Branched j now2 r in
+    let computed = Good IsU32 j now2 oa.value oa.next in
+    let branched = Branched j now2 r in
     let Q = Good IsU32 n now (c.Var r) m in
     let lt_r : number_of r < j = omega (arith, nr, lt) in
     let le_r : n ≤ number_of r = omega (arith, nr, le) in
@@ -227,12 +226,12 @@ branch_fits a ca ha scope names n k j m r now now2 s nr le lt small_m small p be
     let n_j : n ≤ j = omega (arith, le, lt) in
     let k_j : k + 1 ≤ j = omega (arith, lt) in
     let k_m : k + 1 ≤ m = omega (arith, lt, ga, small_m) in
-    sim_more c_image R2 Q (a scope s) (exec (oa.code ++ st.Set r oa.value ∷ []) now2 (image_state c_image s)) (λ late t. Goes (close now2 late) t)
-    (and_then R1 R2 oa.code (st.Set r oa.value ∷ []) now2 _ _ (ha.sim scope names j now2 s small_a (scoped_on n j scope names now now2 n_j p sc) (below_more (k + 1) j now2 k_j be)) (λ v late s1 h1.
+    sim_more c_image branched Q (a scope s) (exec (oa.code ++ st.Set r oa.value ∷ []) now2 (image_state c_image s)) (λ late t. Goes (close now2 late) t)
+    (and_then computed branched oa.code (st.Set r oa.value ∷ []) now2 _ _ (ha.sim scope names j now2 s small_a (scoped_on n j scope names now now2 n_j p sc) (below_more (k + 1) j now2 k_j be)) (λ v late s1 h1.
     let here : local_of late r ≡ Some (blank_of r) = ap the_only (keeps_named j now2 late h1.keeps r lt_r ∙ there) in
     let has : tgt.has_type (image_value v) U32 ≡ true = ap (λ z. tgt.has_type (image_value z) U32) h1.shape.is in
     rw (steps.set_is r oa.value, holds_now oa.next oa.value late (image_value v) h1.holds, here, has)
-    (goes c_image R2 v (set r (image_value v) late) s1 (record { late = late; keeps = h1.keeps; is = refl; shape = h1.shape }))))
+    (goes c_image branched v (set r (image_value v) late) s1 (record { late = late; keeps = h1.keeps; is = refl; shape = h1.shape }))))
     (λ v end s1 h2.
     let x = image_value v in
     let last : Locals = close now2 (set r x h2.late) in
@@ -286,15 +285,15 @@ if_fits q a b cq ca cb hq ha hb = record {
       let bl : CStatement = st.Blank v in
       let arm : CArm = roll-CArm (record { test = oq.value; body = Translation.branch r oa }) in
       let ch : CStatement = st.Chain (arm ∷ []) (Translation.branch r ob) in
-      let R0 = Good IsTruth n now oq.value k in
-      let R1 = Ready n now oq.value k r in
+      let tested = Good IsTruth n now oq.value k in
+      let readied = Ready n now oq.value k r in
       let Q = Good IsU32 n now (c.Var r) ob.next in
-      in_turn R1 Q (oq.code ++ bl ∷ []) (ch ∷ []) now _ _ _
-      (and_then R0 R1 oq.code (bl ∷ []) now _ _ (hq.sim scope names n now s small_q sc be) (λ x now1 s1 h1.
+      in_turn readied Q (oq.code ++ bl ∷ []) (ch ∷ []) now _ _ _
+      (and_then tested readied oq.code (bl ∷ []) now _ _ (hq.sim scope names n now s small_q sc be) (λ x now1 s1 h1.
       let l : CLocal = blank_of r in
       let made : Keeps k now1 (l ∷ now1) = keeps_new k l now1 ge in
       let lt_r : number_of r < k + 1 = omega (arith, nr) in
-      rw (steps.blank_is v) (goes c_image R1 x (l ∷ now1) s1 (record {
+      rw (steps.blank_is v) (goes c_image readied x (l ∷ now1) s1 (record {
         keeps = keeps_then n k now now1 (l ∷ now1) gq h1.keeps made;
         below = (lt_r, below_more k (k + 1) now1 (omega arith) h1.below);
         shape = h1.shape;
@@ -317,7 +316,7 @@ pub first_fits : (params : List (List ℕ)) (x : Expr) → IsFirst params x → 
 first_fits params x (IsFirst.param {x = y} h) = rw (is.var_is y, code.var_is y) (var_fits y)
 first_fits params x (IsFirst.literal {n = n} lt) = rw (is.num_is u32 n, code.num_is u32 n) (num_fits n lt)
 first_fits params x (IsFirst.sum {a = a} {b = b} da db) =
-    rw (is.bin_is bin.Add u32 a b, code.bin_is bin.Add u32 a b) (add_fits _ _ _ _ (first_fits params a da) (first_fits params b db))
+    rw (is.sum_is u32 a b, code.sum_is u32 a b) (add_fits _ _ _ _ (first_fits params a da) (first_fits params b db))
 first_fits params x (IsFirst.choice {a = a} {b = b} {c = p} {d = q} da db dp dq) =
-    rw (is.choose_is (e.Cmp cmp.Lt u32 a b) p q, is.cmp_is cmp.Lt u32 a b, code.if_is (e.Cmp cmp.Lt u32 a b) p q, code.cmp_is cmp.Lt u32 a b)
+    rw (is.choose_is (e.Cmp Lt u32 a b) p q, is.less_is u32 a b, code.if_is (e.Cmp Lt u32 a b) p q, code.less_is u32 a b)
     (if_fits _ _ _ _ _ _ (less_fits _ _ _ _ (first_fits params a da) (first_fits params b db)) (first_fits params p dp) (first_fits params q dq))

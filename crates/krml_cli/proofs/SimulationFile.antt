@@ -12,20 +12,13 @@ use Rattle.krml_trace.specs.declared.width.Width.TheVariants.{W8, W32, W64}
 use Rattle.krml_trace.specs.declared.why.Why.TheVariants as why
 use Rattle.krml_trace.specs.Run.{Goes, Ends, with_some, outcome_of, events_of, NotStuck}
 use Rattle.krml_trace.proofs.Simulates.{Simulates, image_state, goes, sim_more}
-use Rattle.krml_ast.specs.declared.form.Form.{Form}
-use Rattle.krml_ast.specs.declared.form.Form.TheVariants as form
-use Rattle.krml_ast.specs.declared.form.Form.TheFolds.{fold_out-Form}
 use Rattle.krml_ast.specs.declared.value.Value.{Value}
 use Rattle.krml_ast.specs.declared.value.Value.TheVariants as value
 use Rattle.krml_ast.specs.declared.value.Variable.{Variable}
 use Rattle.krml_ast.specs.declared.tree.Ty.TheVariants as t
 use Rattle.krml_ast.specs.declared.tree.Expr.{Expr}
-use Rattle.krml_ast.specs.declared.tree.Def.{Def}
 use Rattle.krml_ast.specs.declared.tree.Def.TheVariants as d
 use Rattle.krml_ast.specs.declared.tree.SourceFile.{SourceFile}
-use Rattle.krml_ast.specs.First.{u32, IsFirst, u32_param, SpellsFirst}
-use Rattle.krml_ast.specs.Levels.{form_count}
-use Rattle.krml_ast.specs.Spelling.{Spells, SpellsDef, SpellsDefs}
 use Rattle.krml_ast.specs.Meaning as src
 use Rattle.krml_ast.specs.Meaning.{Scope, SourceState, SourceRan, eval, source_steps, source_run}
 use Rattle.krml_ctree.specs.declared.value.CValue.{CValue}
@@ -35,13 +28,14 @@ use Rattle.krml_ctree.specs.declared.tree.CType.TheVariants.{U32}
 use Rattle.krml_ctree.specs.declared.tree.CFun.{CFun}
 use Rattle.krml_ctree.specs.Meaning as tgt
 use Rattle.krml_ctree.specs.Meaning.{Locals, CState, CRan, the_only, c_steps, c_run}
+use Rattle.krml_cli.specs.First.{u32, IsFirst, u32_param, SpellsFirst}
 use Rattle.krml_cli.specs.Theorem.{DoesTheSame, IsImplementedBy}
 use Rattle.krml_cli.specs.Translation
 use Rattle.krml_cli.specs.Translation.{Names, named, code_of, emitted, program_of}
 use Rattle.krml_cli.proofs.SimulationNames.{number_of, number-named}
 use Rattle.krml_cli.proofs.SimulationLocals.{Below, below_more, keeps_new, new_named, holds_now}
 use Rattle.krml_cli.proofs.SimulationImages.{image_value, c_image, image-reverse, IsU32, scalar-image}
-use Rattle.krml_cli.proofs.SimulationCode as code
+use Rattle.krml_cli.proofs.SimulationLimits.{Bounded, ParamsWithin, BodyWithin, params_within, bodies_within}
 use Rattle.krml_cli.proofs.Simulation.{Scoped, scoped_on, Good, first_fits}
 
 -- What the arguments make of the parameters, side by side.
@@ -103,12 +97,7 @@ same_run (Ends why.Trapped es) r' h ok = absurd ok
 abbrev pub first_file : List ℕ → List (List ℕ) → Expr → SourceFile
 first_file name params body = record { defs = d.Fun name [] (map u32_param params) (t.Int u32) body ∷ d.Entry name ∷ [] }
 
--- The code of a function's body needs so many numbers of variables at most.
-abbrev pub BodyWithin : ℕ → Def → Type 0
-BodyWithin m (d.Fun name vars params result body) = (names : Names) (n : ℕ) → (code_of body names n).next ≤ n + m
-BodyWithin m (d.Entry name) = Unit {0}
-
-module _ (name : List ℕ) (params : List (List ℕ)) (body : Expr) (first : IsFirst params body) (few : length params ≤ 32) (within : BodyWithin 8000 (d.Fun name [] (map u32_param params) (t.Int u32) body)) where
+module _ (name : List ℕ) (params : List (List ℕ)) (body : Expr) (first : IsFirst params body) (few : length (map u32_param params) ≤ 32) (within : Bounded 8000 body) where
   abbrev file : SourceFile
   file = first_file name params body
 
@@ -127,9 +116,8 @@ module _ (name : List ℕ) (params : List (List ℕ)) (body : Expr) (first : IsF
   -- the function's body, and what it returns
   body_sim : (scope : Scope) (now : Locals) (s : SourceState) → Scoped n scope names now → Below n now → Simulates c_image Answers (eval body scope s) (tgt.body_of fun now (image_state c_image s))
   body_sim scope now s sc be =
-      let size : n ≤ 32 = omega (arith, few, length-map params u32_param) in
       let next = within names n in
-      let small : out.next ≤ 2 ^ 64 = omega (arith, size, next) in
+      let small : out.next ≤ 2 ^ 64 = omega (arith, few, next) in
       sim_more c_image (Good IsU32 n now out.value out.next) Answers _ _ _ ((first_fits params body first).sim scope names n now s small sc be) (λ v late s1 h.
       let has : tgt.has_type (image_value v) U32 ≡ true = ap (λ z. tgt.has_type (image_value z) U32) h.shape.is in
       rw (holds_now out.next out.value late (image_value v) h.holds, has) (goes c_image Answers v (Some (image_value v)) s1 refl))
@@ -150,49 +138,17 @@ module _ (name : List ℕ) (params : List (List ℕ)) (body : Expr) (first : IsF
       at : (b : Bool) → bytes_eq name entry ≡ b → Simulates c_image Answers (source_steps file entry args bound) (c_steps (program_of file) (emitted entry) args bound)
       at false e = rw e tt
       at true e =
-          let size : n ≤ 2 ^ 64 = omega (arith, few, length-map params u32_param) in
+          let size : n ≤ 2 ^ 64 = omega (arith, few) in
           let count : 0 + length params ≡ n = omega (arith, length-map params u32_param) in
           rw e (begin _ _ (params_enter params args.items 0 n [] [] [] count size tt tt))
 
   whole : IsImplementedBy file (program_of file)
   whole entry args bound fit ok = same_run (source_steps file entry args bound) (c_steps (program_of file) (emitted entry) args bound) (steps_sim entry args bound) ok
 
--- The forms of an expression bound the variables of its code.
-body_within : (f : Form) (x : Expr) → Spells f x → (names : Names) (n : ℕ) → (code_of x names n).next ≤ n + form_count f
-body_within f x (Spells.var {x = y} h) names n = rw (code.var_is y) (omega arith)
-body_within f x (Spells.num {i = i} {n = a} h lt) names n = rw (code.num_is i a) (omega arith)
-body_within f x (Spells.bin {op = op} {i = i} {f = g} {g = h} {a = a} {b = b} da db) names n =
-    let p = body_within g a da names n in
-    let q = body_within h b db names (code_of a names n).next in
-    rw (code.bin_is op i a b, fold_out-Form, form.outs-List) (omega (arith, p, q))
-body_within f x (Spells.cmp {op = op} {i = i} {f = g} {g = h} {a = a} {b = b} da db) names n =
-    let p = body_within g a da names n in
-    let q = body_within h b db names (code_of a names n).next in
-    rw (code.cmp_is op i a b, fold_out-Form, form.outs-List) (omega (arith, p, q))
-body_within f x (Spells.choice {f = g} {g = h} {h = i} {c = c} {a = a} {b = b} dc da db) names n =
-    let o = body_within g c dc names n in
-    let p = body_within h a da names ((code_of c names n).next + 1) in
-    let q = body_within i b db names (code_of a names ((code_of c names n).next + 1)).next in
-    rw (code.if_is c a b, fold_out-Form, form.outs-List) (omega (arith, o, p, q))
-
--- and those of a definition, those of its body
-def_within : (f : Form) (def : Def) → SpellsDef f def → BodyWithin (form_count f) def
-def_within f def (SpellsDef.entry h) = tt
-def_within f def (SpellsDef.fun {g = g} {body = body} h hs ht hb) = λ names n. let p = body_within g body hb names n in rw (fold_out-Form, form.outs-List) (omega (arith, p))
-
--- where all forms are within a bound, so is each body
-pub defs_within : (m : ℕ) (forms : List Form) (defs : List Def) → SpellsDefs forms defs → AllByRecursion (λ f. form_count f ≤ m) forms → AllByRecursion (BodyWithin m) defs
-defs_within m forms defs SpellsDefs.none h = tt
-defs_within m forms defs (SpellsDefs.one {f = f} {fs = fs} {def = def} {defs = rest} dd ds) h = (more def (def_within f def dd) h.0, defs_within m fs rest ds h.1)
-  where
-    more : (def : Def) → BodyWithin (form_count f) def → form_count f ≤ m → BodyWithin m def
-    more (d.Fun name vars params result body) w le = λ names n. let p = w names n in omega (arith, p, le)
-    more (d.Entry name) w le = tt
-
 -- The program of a first file that a text spells does what the file does.
 pub first_files_compile : (text : List ℕ) (file : SourceFile) → SpellsFirst text file → IsImplementedBy file (program_of file)
 first_files_compile text file h =
     let f = h.first in
-    let small : AllByRecursion (BodyWithin 8000) file.defs = defs_within 8000 h.forms file.defs h.spelled h.small in
-    let within : AllByRecursion (BodyWithin 8000) (first_file f.name f.params f.body).defs = subst (λ (z : SourceFile). AllByRecursion (BodyWithin 8000) z.defs) f.is small in
-    subst (λ z. IsImplementedBy z (program_of z)) (sym f.is) (whole f.name f.params f.body f.first f.few within.0)
+    let few : AllByRecursion ParamsWithin (first_file f.name f.params f.body).defs = subst (λ (z : SourceFile). AllByRecursion ParamsWithin z.defs) f.is (params_within text file h.spelled) in
+    let within : AllByRecursion BodyWithin (first_file f.name f.params f.body).defs = subst (λ (z : SourceFile). AllByRecursion BodyWithin z.defs) f.is (bodies_within text file h.spelled) in
+    subst (λ z. IsImplementedBy z (program_of z)) (sym f.is) (whole f.name f.params f.body f.first few.0 within.0)

@@ -4,25 +4,26 @@ use Rattle.std.proofs.lemmas.List.{length-map, map-append}
 use Rattle.std.specs.List.{Contains, AllByRecursion, IsDistinct, flat_map}
 use Rattle.std.specs.Str.{bytes_eq}
 use Rattle.krml_trace.specs.Name.{IsName}
-use Rattle.krml_ast.specs.declared.form.Form.{Form}
+use Rattle.krml_forms.specs.declared.form.Form.{Form}
 use Rattle.krml_ast.specs.declared.tree.Ty.TheVariants as t
 use Rattle.krml_ast.specs.declared.tree.Field.{Field}
 use Rattle.krml_ast.specs.declared.tree.Expr.{Expr}
 use Rattle.krml_ast.specs.declared.tree.Def.{Def}
 use Rattle.krml_ast.specs.declared.tree.Def.TheVariants as d
 use Rattle.krml_ast.specs.declared.tree.SourceFile.{SourceFile}
-use Rattle.krml_ast.specs.First.{u32, IsFirst, u32_param, SpellsFirst}
-use Rattle.krml_ast.specs.Spelling.{SpellsField, SpellsFields, SpellsDef, SpellsDefs}
+use Rattle.krml_ast.specs.Spelling.{Each, SpellsField, SpellsDef, SpellsDefs}
 use Rattle.krml_ctree.specs.declared.tree.CType.TheVariants.{U32}
 use Rattle.krml_ctree.specs.declared.tree.CVar.{CVar}
 use Rattle.krml_ctree.specs.declared.tree.CFun.{CFun}
 use Rattle.krml_ctree.specs.Shape.{IsVariable, IsFunction, AnswerKeeps, FunKeeps}
 use Rattle.krml_ctree.specs.WellFormed.{Scope, AnswerFits, FunFits, WellFormed, variables}
 use Rattle.krml_ctree.proofs.Locals.{name_same}
+use Rattle.krml_cli.specs.First.{u32, IsFirst, u32_param, SpellsFirst}
 use Rattle.krml_cli.specs.Translation
 use Rattle.krml_cli.specs.Translation.{Names, named, look, code_of, program_of}
 use Rattle.krml_cli.proofs.SimulationNames.{number-named}
-use Rattle.krml_cli.proofs.SimulationFile.{first_file, BodyWithin, defs_within}
+use Rattle.krml_cli.proofs.SimulationFile.{first_file}
+use Rattle.krml_cli.proofs.SimulationLimits.{Bounded, ParamsWithin, BodyWithin, params_within, bodies_within}
 use Rattle.krml_cli.proofs.WellFormedProgramNames.{Fresh, named_is, fresh_none, fresh_one, fresh_both}
 use Rattle.krml_cli.proofs.WellFormedProgramCode.{u32_var, Within, InScope, Known, declared, Placed, newest, before, first_placed}
 
@@ -85,8 +86,8 @@ params_shapes : (g : Scope) (vs : List CVar) → AllInScope g vs → AllByRecurs
 params_shapes g [] h = tt
 params_shapes g (v ∷ vs) h = (h.0.shape, params_shapes g vs h.1)
 
-module _ (name : List ℕ) (params : List (List ℕ)) (body : Expr) (first : IsFirst params body) (few : length params ≤ 32) (is_name : IsName name) (all_names : AllNames (map u32_param params))
-    (within : BodyWithin 8000 (d.Fun name [] (map u32_param params) (t.Int u32) body)) where
+module _ (name : List ℕ) (params : List (List ℕ)) (body : Expr) (first : IsFirst params body) (few : length (map u32_param params) ≤ 32) (is_name : IsName name) (all_names : AllNames (map u32_param params))
+    (within : Bounded 8000 body) where
   -- the function, the names in C of its parameters, and their number
   abbrev fun : CFun
   fun = Translation.function name (map u32_param params) (t.Int u32) body
@@ -101,17 +102,13 @@ module _ (name : List ℕ) (params : List (List ℕ)) (body : Expr) (first : IsF
   count : 0 + length params ≡ n
   count = omega (arith, length-map params u32_param)
 
-  -- and small
-  size : n ≤ 32
-  size = omega (arith, few, length-map params u32_param)
-
   -- the parameters are in scope
   all_there : AllInScope fun.params fun.params
-  all_there = params_in_scope params 0 n fun.params count (omega (arith, size)) all_names (λ v p. p)
+  all_there = params_in_scope params 0 n fun.params count (omega (arith, few)) all_names (λ v p. p)
 
   -- the numbers of all variables are told apart by their names
   small : (code_of body names n).next ≤ 2 ^ 64
-  small = omega (arith, size, within names n)
+  small = omega (arith, few, within names n)
 
   -- the body is well formed
   placed : Placed U32 n fun.params (code_of body names n)
@@ -125,7 +122,7 @@ module _ (name : List ℕ) (params : List (List ℕ)) (body : Expr) (first : IsF
   distinct : IsDistinct bytes_eq (map (λ v. v.name) (fun.params ++ flat_map variables fun.body))
   distinct = subst (IsDistinct bytes_eq) (sym (map-append (λ v. v.name) fun.params (flat_map variables fun.body)))
       (fresh_both 0 n (code_of body names n).next (map (λ v. v.name) fun.params) (declared fun.body) (omega arith) ((first_placed params body first).grows names n)
-      (params_fresh params 0 n count (omega (arith, size))) placed.fresh).distinct
+      (params_fresh params 0 n count (omega (arith, few))) placed.fresh).distinct
 
   -- it fits
   fits : FunFits fun
@@ -136,35 +133,38 @@ module _ (name : List ℕ) (params : List (List ℕ)) (body : Expr) (first : IsF
   unfolding IsDistinct
   whole = record { shapes = record { funs = (keeps, tt) }; distinct = (tt, tt); funs = (fits, tt) }
 
--- The names of a definition are names.
+-- The names of a function are names.
 abbrev DefNames : Def → Type 0
 DefNames (d.Fun name vars params result body) = IsName name × AllNames params
-DefNames (d.Entry name) = IsName name
+DefNames _ = Unit {0}
 
 -- those of parameters that forms spell
-fields_names : (fs : List Form) (ps : List Field) → SpellsFields fs ps → AllNames ps
-fields_names fs ps SpellsFields.none = tt
-fields_names fs ps (SpellsFields.one {fs = gs} {p = p} {ps = qs} h hs) = (at _ p h, fields_names gs qs hs)
+fields_names : (fs : List Form) (ps : List Field) → Each SpellsField fs ps → AllNames ps
+fields_names fs ps Each.none = tt
+fields_names fs ps (Each.one {y = p} {xs = gs} {ys = qs} h hs) = (at _ p h, fields_names gs qs hs)
   where
     at : (f : Form) (p : Field) → SpellsField f p → IsName p.name
-    at f p (SpellsField.field n ty) = n
+    at f p (SpellsField.field hx ht) = hx
 
 -- those of a definition that a form spells
 def_names : (f : Form) (def : Def) → SpellsDef f def → DefNames def
-def_names f def (SpellsDef.fun {fs = fs} {params = ps} h hs ht hb) = (h, fields_names fs ps hs)
-def_names f def (SpellsDef.entry h) = h
+def_names f def (SpellsDef.struct hx hv hf hs) = tt
+def_names f def (SpellsDef.sum hx hv hc hs) = tt
+def_names f def (SpellsDef.table hx hn hs) = tt
+def_names f def (SpellsDef.fun {ps = ps} {params = params} hx hv hp ht hb) = (hx, fields_names ps params hp)
+def_names f def (SpellsDef.entry hx) = tt
 
 -- and those of all definitions
 defs_names : (forms : List Form) (defs : List Def) → SpellsDefs forms defs → AllByRecursion DefNames defs
-defs_names forms defs SpellsDefs.none = tt
-defs_names forms defs (SpellsDefs.one {f = f} {fs = fs} {def = def} {defs = rest} h hs) = (def_names f def h, defs_names fs rest hs)
+defs_names forms defs Each.none = tt
+defs_names forms defs (Each.one {x = f} {y = def} {xs = fs} {ys = rest} h hs) = (def_names f def h, defs_names fs rest hs)
 
 -- The program of a first file that a text spells is well formed.
 pub first_well_formed : (text : List ℕ) (file : SourceFile) → SpellsFirst text file → WellFormed (program_of file)
 first_well_formed text file h =
     let f = h.first in
-    let few_numbers : AllByRecursion (BodyWithin 8000) file.defs = defs_within 8000 h.forms file.defs h.spelled h.small in
-    let within : AllByRecursion (BodyWithin 8000) (first_file f.name f.params f.body).defs = subst (λ (z : SourceFile). AllByRecursion (BodyWithin 8000) z.defs) f.is few_numbers in
-    let all : AllByRecursion DefNames file.defs = defs_names h.forms file.defs h.spelled in
+    let few : AllByRecursion ParamsWithin (first_file f.name f.params f.body).defs = subst (λ (z : SourceFile). AllByRecursion ParamsWithin z.defs) f.is (params_within text file h.spelled) in
+    let within : AllByRecursion BodyWithin (first_file f.name f.params f.body).defs = subst (λ (z : SourceFile). AllByRecursion BodyWithin z.defs) f.is (bodies_within text file h.spelled) in
+    let all : AllByRecursion DefNames file.defs = defs_names h.spelled.forms file.defs h.spelled.spelled in
     let named : AllByRecursion DefNames (first_file f.name f.params f.body).defs = subst (λ (z : SourceFile). AllByRecursion DefNames z.defs) f.is all in
-    subst (λ z. WellFormed (program_of z)) (sym f.is) (whole f.name f.params f.body f.first f.few named.0.0 named.0.1 within.0)
+    subst (λ z. WellFormed (program_of z)) (sym f.is) (whole f.name f.params f.body f.first few.0 named.0.0 named.0.1 within.0)

@@ -6,11 +6,9 @@ use Rattle.std.proofs.lemmas.List.Elements.{Contains-append_right}
 use Rattle.std.proofs.lemmas.List.Folds.{flat_map-map}
 use Rattle.std.specs.List.{Contains, flat_map}
 use Rattle.krml_trace.specs.declared.width.Width.TheVariants.{W8, W32}
-use Rattle.krml_ast.specs.declared.tree.BinOp.TheVariants as bin
-use Rattle.krml_ast.specs.declared.tree.CmpOp.TheVariants as cmp
+use Rattle.krml_ast.specs.declared.tree.CmpOp.TheVariants.{Lt}
 use Rattle.krml_ast.specs.declared.tree.Expr.{Expr}
 use Rattle.krml_ast.specs.declared.tree.Expr.TheVariants as e
-use Rattle.krml_ast.specs.First.{u32, IsFirst}
 use Rattle.krml_ctree.specs.declared.tree.CType.{CType}
 use Rattle.krml_ctree.specs.declared.tree.CType.TheVariants.{U8, U32}
 use Rattle.krml_ctree.specs.declared.tree.CVar.{CVar}
@@ -23,7 +21,8 @@ use Rattle.krml_ctree.specs.declared.tree.CStatement.{CStatement}
 use Rattle.krml_ctree.specs.declared.tree.CStatement.TheVariants as st
 use Rattle.krml_ctree.specs.declared.tree.CStatement.TheFolds.{fold_out-CStatement, fold-roll-CArm}
 use Rattle.krml_ctree.specs.Shape.{IsVariable, IsLiteral, ExprKeeps, StatementKeeps, StatementsKeep, ArmKeeps, ArmsKeep}
-use Rattle.krml_ctree.specs.WellFormed.{Scope, IsWide, HasType, IsCondition, StatementFits, StatementsFit, BlockFits, ArmsFit, variables}
+use Rattle.krml_ctree.specs.WellFormed.{Scope, IsArithmetic, HasType, IsCondition, StatementFits, StatementsFit, BlockFits, ArmsFit, variables}
+use Rattle.krml_cli.specs.First.{u32, IsFirst}
 use Rattle.krml_cli.specs.Translation
 use Rattle.krml_cli.specs.Translation.{Names, Out, Comp, look, numbered, code_of, branch, if_statement}
 use Rattle.krml_cli.proofs.SimulationNames.{number-numbered}
@@ -182,11 +181,11 @@ operands_placed params ty of ca cb keeps types ha hb = record {
 
 -- (add u32 a b)
 add_placed : (params : List (List ℕ)) (ca cb : Comp) → Places params U32 ca → Places params U32 cb → Places params U32 (Translation.binary_code (c.Bin c_bin.Add) ca cb)
-add_placed params ca cb = operands_placed params U32 (c.Bin c_bin.Add) ca cb (λ x y p q. ExprKeeps.bin p q) (λ g x y p q. HasType.sum IsWide.short p q)
+add_placed params ca cb = operands_placed params U32 (c.Bin c_bin.Add) ca cb (λ x y p q. ExprKeeps.bin p q) (λ g x y p q. HasType.sum IsArithmetic.short p q)
 
 -- (lt u32 a b)
 less_placed : (params : List (List ℕ)) (ca cb : Comp) → Places params U32 ca → Places params U32 cb → Places params U8 (Translation.binary_code (c.Cmp W8 c_cmp.Lt) ca cb)
-less_placed params ca cb = operands_placed params U8 (c.Cmp W8 c_cmp.Lt) ca cb (λ x y p q. ExprKeeps.cmp p q) (λ g x y p q. HasType.cmp W8 U32 IsWide.short p q)
+less_placed params ca cb = operands_placed params U8 (c.Cmp W8 c_cmp.Lt) ca cb (λ x y p q. ExprKeeps.cmp p q) (λ g x y p q. HasType.cmp W8 U32 IsArithmetic.short p q)
 
 -- a branch, which sets a variable in scope to its value, keeps the shapes
 branch_shapes : (r : List ℕ) (n : ℕ) (g : Scope) (o : Out) → IsVariable r → Placed U32 n g o → StatementsKeep (branch r o)
@@ -259,7 +258,7 @@ if_placed params cq ca cb hq ha hb = record {
 pub first_placed : (params : List (List ℕ)) (x : Expr) → IsFirst params x → Places params U32 (code_of x)
 first_placed params x (IsFirst.param {x = y} h) = rw (code.var_is y) (var_placed params y h)
 first_placed params x (IsFirst.literal {n = n} lt) = rw (code.num_is u32 n) (num_placed params n lt)
-first_placed params x (IsFirst.sum {a = a} {b = b} da db) = rw (code.bin_is bin.Add u32 a b) (add_placed params _ _ (first_placed params a da) (first_placed params b db))
+first_placed params x (IsFirst.sum {a = a} {b = b} da db) = rw (code.sum_is u32 a b) (add_placed params _ _ (first_placed params a da) (first_placed params b db))
 first_placed params x (IsFirst.choice {a = a} {b = b} {c = p} {d = q} da db dp dq) =
-    rw (code.if_is (e.Cmp cmp.Lt u32 a b) p q, code.cmp_is cmp.Lt u32 a b)
+    rw (code.if_is (e.Cmp Lt u32 a b) p q, code.less_is u32 a b)
     (if_placed params _ _ _ (less_placed params _ _ (first_placed params a da) (first_placed params b db)) (first_placed params p dp) (first_placed params q dq))

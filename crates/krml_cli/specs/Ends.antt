@@ -8,7 +8,7 @@ use Rattle.krml_trace.specs.declared.bound.Bound.{Bound}
 use Rattle.krml_trace.specs.declared.outside.SinkFault.{SinkFault}
 use Rattle.krml_trace.specs.declared.outside.SinkFault.TheVariants as fault
 use Rattle.krml_ast.specs.declared.tree.SourceFile.{SourceFile}
-use Rattle.krml_ast.specs.First.{IsFirstFile, SpellsFirst}
+use Rattle.krml_cli.specs.First.{IsFirstFile, SpellsFirst}
 use Rattle.krml_ast.specs.Meaning.{ArgumentsFit, source_run}
 use Rattle.krml_ctree.specs.declared.tree.CProgram.{CProgram}
 use Rattle.krml_ctree.specs.Spelling.{SpellsProgram}
@@ -16,6 +16,8 @@ use Rattle.krml_ctree.specs.Text.{text_of}
 use Rattle.krml_ctree.specs.WellFormed.{WellFormed}
 use Rattle.krml_cli.specs.declared.stop.Stop.{Stop}
 use Rattle.krml_cli.specs.declared.stop.Stop.TheVariants as stop
+use Rattle.krml_cli.specs.declared.refusal.FileRefusal.{FileRefusal}
+use Rattle.krml_cli.specs.Refusal.{Refuses, refusal_line}
 use Rattle.krml_cli.specs.Theorem.{IsImplementedBy, IsDone}
 use Rattle.krml_cli.specs.Translation.{program_of}
 
@@ -84,14 +86,14 @@ pub record IsOutput (left left' : Option (List ℕ)) (text : List ℕ) : Type 0 
   pub compiled : CompilesTo input text
 
 abbrev pub status_of : Stop → ℕ
-status_of stop.NotBuilt = 1
+status_of (stop.Refused why) = 1
 status_of stop.Usage = 2
 status_of stop.ReadFault = 3
 status_of stop.WriteFault = 4
 status_of stop.NoMemory = 5
 
 abbrev pub line_of : Stop → List ℕ
-line_of stop.NotBuilt = codes "krml: refused: not built\n"
+line_of (stop.Refused why) = refusal_line why
 line_of stop.Usage = codes "krml: usage\n"
 line_of stop.ReadFault = codes "krml: read fault\n"
 line_of stop.WriteFault = codes "krml: write fault\n"
@@ -122,7 +124,7 @@ pub record Unwritten (c : Call) : Type 0 where
 pub data Stops (c : Call) : Stop → Type 0 where
   usage : IsUsage c.words → c.left' ≡ c.left → c.reads' ≡ c.reads → Unwritten c → Stops c stop.Usage
   read_fault : IsCompile c.words → c.reads ≤ c.reads' → Rose c.reads c.reads' → Unwritten c → Stops c stop.ReadFault
-  not_built : {input : List ℕ} → IsCompile c.words → Taken c.left c.left' input → SpellsNoFirst input → c.reads' ≡ c.reads → Unwritten c → Stops c stop.NotBuilt
+  refused : {input : List ℕ} {why : FileRefusal} → IsCompile c.words → Taken c.left c.left' input → Refuses input why → c.reads' ≡ c.reads → Unwritten c → Stops c (stop.Refused why)
   write_fault : {text : List ℕ} → IsCompile c.words → IsOutput c.left c.left' text → c.reads' ≡ c.reads
       → AppendsPrefix c.written c.written' text → c.writes ≤ c.writes' → Rose c.writes c.writes' → Stops c stop.WriteFault
   no_memory : IsCompile c.words → c.reads' ≡ c.reads → Unwritten c → Stops c stop.NoMemory
@@ -152,9 +154,13 @@ PrefixOnly left left' written written' = (written' ≡ written) ⊎ ((text : Lis
 abbrev pub IsLine : List ℕ → Type 0
 IsLine line = (why : Stop) × (line ≡ line_of why)
 
--- a status with a line of its own that was noted
+-- a status that comes before anything is written
 abbrev pub IsNoted : ℕ → Type 0
 IsNoted status = (status ≡ 1) ⊎ (status ≡ 2) ⊎ (status ≡ 3)
+
+-- one of these whose line is always the same
+abbrev pub IsPlain : ℕ → Type 0
+IsPlain status = (status ≡ 2) ⊎ (status ≡ 3)
 
 -- a status that may come in the midst of writing
 abbrev pub IsCut : ℕ → Type 0
@@ -166,8 +172,16 @@ pub record Compiled (left left' written written' : Option (List ℕ)) : Type 0 w
   pub output : IsOutput left left' text
   pub appended : Appends written written' text
 
--- The input was taken, and spells no first file.
-pub record Refused (left left' : Option (List ℕ)) : Type 0 where
+-- The input was taken and spells no first file, and the line of the one refusal that it meets was noted.
+pub record Refused (left left' noted noted' : Option (List ℕ)) : Type 0 where
   pub input : List ℕ
+  pub why : FileRefusal
   pub taken : Taken left left' input
-  pub refused : SpellsNoFirst input
+  pub refused : Refuses input why
+  pub none : SpellsNoFirst input
+  pub line : Appends noted noted' (line_of (stop.Refused why))
+
+-- A call was refused for this, and its line was noted.
+pub record RefusedFor (why : FileRefusal) (status : ℕ) (noted noted' : Option (List ℕ)) : Type 0 where
+  pub is : status ≡ 1
+  pub line : Appends noted noted' (line_of (stop.Refused why))

@@ -1,7 +1,10 @@
 pub mod Emitting
 pub mod Ends
+pub mod First
+pub mod FirstFile
 pub mod Image
 pub mod Printing
+pub mod Refusal
 pub mod Steps
 pub mod Theorem
 pub mod Translation

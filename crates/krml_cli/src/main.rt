@@ -3,11 +3,13 @@
 
 mod count;
 mod emitter;
+mod first;
 mod input;
 mod krml;
 mod names;
 mod output;
 mod print;
+mod refusal;
 mod scope;
 mod stop;
 #[cfg(test)]

@@ -1,7 +1,11 @@
 ghost use Rattle.std.specs.Prelude.{◌≢◌, ◌≤◌, IfOk};
 
 use crate::krml::krml;
-use krml_trace::{MemSink, MemSource, SureSink, SureSource};
+use krml_ast::{SourceEvent, SourceRun, evaluate_source};
+use krml_reader::read_file;
+use krml_trace::{
+    Arg, Arguments, Bound, MemSink, MemSource, Name, Outcome, Seq, SureSink, SureSource, Width,
+};
 use std::alloc::{AllocError, Global};
 use std::test::Fail;
 
@@ -90,26 +94,70 @@ fn faults(rt: HostRuntime) -> Result<(), Fail> {
 }
 
 #[test]
-fn refusals(rt: HostRuntime) -> Result<(), Fail> {
-    let cases: [(&[&str], &[u8], u8, &[u8]); 7] = [
-        (
-            &["c"],
-            b"(fun f () () u32 (u32 4294967296)) (entry f)",
-            1,
-            b"krml: refused: not built\n",
-        ),
-        (&["c"], b"(entry f)", 1, b"krml: refused: not built\n"),
-        (&["c"], b"", 1, b"krml: refused: not built\n"),
-        (&[], FIRST, 2, b"krml: usage\n"),
-        (&["C"], FIRST, 2, b"krml: usage\n"),
-        (&["c", "f"], FIRST, 2, b"krml: usage\n"),
-        (&["--help"], FIRST, 2, b"krml: usage\n"),
-    ];
-    for (words, input, status, notes) in cases {
-        let a = run(rt.alloc(), words, input, 4096, [&[], &[], &[]])?;
-        assert_eq!(rt; a.status, status);
+fn usage(rt: HostRuntime) -> Result<(), Fail> {
+    let cases: [&[&str]; 4] = [&[], &["C"], &["c", "f"], &["--help"]];
+    for words in cases {
+        let a = run(rt.alloc(), words, FIRST, 4096, [&[], &[], &[]])?;
+        assert_eq!(rt; a.status, 2);
         assert_eq!(rt; a.out.bytes(), b"".as_slice());
-        assert_eq!(rt; a.notes.bytes(), notes);
+        assert_eq!(rt; a.notes.bytes(), b"krml: usage\n".as_slice());
+    }
+    Ok(())
+}
+
+/// The pieces in a row, each as often as it says.
+fn text_of(alloc: Global, pieces: &[(&[u8], usize)]) -> Result<Vec<u8>, AllocError> {
+    let mut text = Vec::new(alloc);
+    for (piece, times) in pieces {
+        for _ in 0..*times {
+            text.extend_from_slice(piece)?;
+        }
+    }
+    Ok(text)
+}
+
+#[test]
+fn refusals(rt: HostRuntime) -> Result<(), Fail> {
+    let cases: [(&[(&[u8], usize)], &[u8]); 12] = [
+        (&[(b";", 1), (b"x", 1_048_576)], b"too large"),
+        (&[(b"(fun f", 1)], b"syntax at 6"),
+        (&[(b"(", 524_288)], b"syntax at 524288"),
+        (&[(b"(", 65), (b")", 65)], b"nesting at 64"),
+        (&[(b"(", 64), (b")", 64)], b"shape of form 0"),
+        (
+            &[(b"(fun f () () u32 (u32 4294967296)) (entry f)", 1)],
+            b"shape of form 0",
+        ),
+        (&[(b"(entry f) f", 1)], b"shape of form 1"),
+        (
+            &[(b"(fun ", 1), (b"f", 65), (b" () () u32 (u32 1))", 1)],
+            b"limit name 65",
+        ),
+        (
+            &[
+                (b"(fun f () (", 1),
+                (b"(a u32)", 33),
+                (b") u32 a) (entry f)", 1),
+            ],
+            b"limit parameters 33",
+        ),
+        (&[], b"not built"),
+        (&[(b"(entry f)", 1)], b"not built"),
+        (
+            &[(b"(fun f () ((a u32) (a u32)) u32 a) (entry f)", 1)],
+            b"not built",
+        ),
+    ];
+    for (pieces, words) in cases {
+        let input = text_of(rt.alloc(), pieces)?;
+        let line = text_of(
+            rt.alloc(),
+            &[(b"krml: refused: ", 1), (words, 1), (b"\n", 1)],
+        )?;
+        let a = run(rt.alloc(), &["c"], input.as_slice(), 4096, [&[], &[], &[]])?;
+        assert_eq!(rt; a.status, 1);
+        assert_eq!(rt; a.out.bytes(), b"".as_slice());
+        assert_eq!(rt; a.notes.bytes(), line.as_slice());
     }
     Ok(())
 }
@@ -125,5 +173,103 @@ fn cut_at_every_byte(rt: HostRuntime) -> Result<(), Fail> {
         );
     }
     assert_eq!(rt; sure_status(rt.alloc(), &["c"], &FIRST[..whole])?, 0);
+    Ok(())
+}
+
+/// Two numbers of 32 bits.
+fn two(alloc: Global, x: u32, y: u32) -> Result<Arguments, AllocError> {
+    let mut items = Seq::new(alloc);
+    items.push(Arg::Num(Width::W32, u64::from(x)))?;
+    items.push(Arg::Num(Width::W32, u64::from(y)))?;
+    Ok(Arguments { items })
+}
+
+/// A number of 32 bits, and one of 64.
+fn wide(alloc: Global) -> Result<Arguments, AllocError> {
+    let mut items = Seq::new(alloc);
+    items.push(Arg::Num(Width::W32, 1))?;
+    items.push(Arg::Num(Width::W64, 2))?;
+    Ok(Arguments { items })
+}
+
+/// The run of an entry of the file that a text spells, by the meaning of the source. None where it spells none.
+fn run_source(
+    alloc: Global,
+    text: &[u8],
+    entry: &[u8],
+    args: &Arguments,
+    bound: Bound,
+) -> Result<Option<SourceRun>, AllocError> {
+    let entry = Name::new(alloc, entry)?;
+    match read_file(alloc, text) {
+        Ok(file) => Ok(Some(evaluate_source(alloc, &file, &entry, args, bound)?)),
+        Err(_) => Ok(None),
+    }
+}
+
+/// Whether a run is done with a result and two conditions.
+fn is_done(run: &Option<SourceRun>, number: u64, first: bool, second: bool) -> bool {
+    let Some(run) = run else {
+        return false;
+    };
+    let done = matches!(&run.outcome, Outcome::Done { result: Some(n), .. } if *n == number);
+    match run.events.as_slice() {
+        [SourceEvent::If(a), SourceEvent::If(b)] => done && *a == first && *b == second,
+        _ => false,
+    }
+}
+
+fn is_undefined(run: &Option<SourceRun>) -> bool {
+    let Some(run) = run else {
+        return false;
+    };
+    matches!(run.outcome, Outcome::Undefined) && run.events.as_slice().is_empty()
+}
+
+/// No call and no loop stands in these functions, so each bound is enough.
+const BOUNDS: [Bound; 2] = [Bound { ticks: 0, depth: 0 }, Bound { ticks: 7, depth: 3 }];
+
+const TWO_IFS: &[u8] = b"(fun f () ((x u32) (y u32)) u32
+  (add u32 (if (lt u32 x y) (add u32 x (u32 4294967295)) y) (if (lt u32 y x) (u32 10) (u32 20))))
+(entry f)";
+
+#[test]
+fn runs_of_the_source(rt: HostRuntime) -> Result<(), Fail> {
+    let alloc = rt.alloc();
+    for bound in BOUNDS {
+        for (x, y, number, first, second) in [
+            (9, 10, 28, true, false),
+            (10, 10, 30, false, false),
+            (11, 10, 20, false, true),
+        ] {
+            let run = run_source(alloc, TWO_IFS, b"f", &two(alloc, x, y)?, bound)?;
+            assert!(rt; is_done(&run, number, first, second), "at {x} and {y}");
+        }
+    }
+    Ok(())
+}
+
+#[test]
+fn undefined_runs_of_the_source(rt: HostRuntime) -> Result<(), Fail> {
+    let alloc = rt.alloc();
+    let texts: [(&[u8], &[u8]); 5] = [
+        (TWO_IFS, b"g"),
+        (b"(fun f () ((x u32)) u32 x) (entry f)", b"f"),
+        (b"(fun f () ((x u32) (y u8)) u32 x) (entry f)", b"f"),
+        (
+            b"(fun f () ((x u32) (y u32)) u32 (add u32 x (u8 1))) (entry f)",
+            b"f",
+        ),
+        (
+            b"(fun f () ((x u32) (y u32)) u32 (sub u32 x y)) (entry f)",
+            b"f",
+        ),
+    ];
+    for (text, entry) in texts {
+        let run = run_source(alloc, text, entry, &two(alloc, 1, 2)?, BOUNDS[1])?;
+        assert!(rt; is_undefined(&run));
+    }
+    let run = run_source(alloc, TWO_IFS, b"f", &wide(alloc)?, BOUNDS[1])?;
+    assert!(rt; is_undefined(&run));
     Ok(())
 }

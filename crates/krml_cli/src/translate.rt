@@ -16,6 +16,7 @@ fn c_type(ty: &Ty) -> CType
 {
     match ty {
         Ty::Int(i) => CType::of(i.width),
+        _ => CType::U32,
     }
 }
 
@@ -81,7 +82,7 @@ pub fn translate(alloc: Global, file: &SourceFile) -> Result<CProgram, NoMemory>
                 body,
                 ..
             } => funs.push(function(alloc, name, params.as_slice(), result, body)?)?,
-            Def::Entry { .. } => {}
+            _ => {}
         }
     }
     Ok(CProgram { funs })

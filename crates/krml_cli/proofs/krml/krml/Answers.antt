@@ -1,11 +1,11 @@
-use Rattle.krml_cli.proofs.Clauses.{compiled, refused, prefix, silent, noted, note_prefix, write_noted, completes, refuses}
+use Rattle.krml_cli.proofs.Clauses.{compiled, refused, prefix, silent, noted, note_prefix, write_noted, completes, refuses, refuses_for}
 use Rattle.krml_cli.proofs.krml.krml.Goals as goal
 
 pub returns-clause-compiled : goal.returns-clause-compiled
 returns-clause-compiled g c = compiled _ c.command.result c.command.ensures
 
 pub returns-clause-refused : goal.returns-clause-refused
-returns-clause-refused g c = refused _ c.command.result c.command.ensures
+returns-clause-refused g c = refused c.one_answer.ensures _ c.command.result c.command.ensures
 
 pub returns-clause-silent : goal.returns-clause-silent
 returns-clause-silent g c = silent _ c.command.result c.command.ensures
@@ -17,13 +17,16 @@ pub returns-clause-note_prefix : goal.returns-clause-note_prefix
 returns-clause-note_prefix g c = note_prefix _ c.command.result c.command.ensures
 
 pub returns-clause-completes : goal.returns-clause-completes
-returns-clause-completes g c = completes _ c.command.result c.command.ensures
+returns-clause-completes g c = completes c.one_answer.ensures _ c.command.result c.command.ensures
 
 pub returns-clause-refuses : goal.returns-clause-refuses
-returns-clause-refuses g c = refuses _ c.command.result c.command.ensures
+returns-clause-refuses g c = refuses c.one_answer.ensures _ c.command.result c.command.ensures
 
 pub returns-clause-noted : goal.returns-clause-noted
 returns-clause-noted g c = noted _ c.command.result c.command.ensures
 
 pub returns-clause-write_noted : goal.returns-clause-write_noted
 returns-clause-write_noted g c = write_noted _ c.command.result c.command.ensures
+
+pub returns-clause-refuses_for : goal.returns-clause-refuses_for
+returns-clause-refuses_for g c = refuses_for c.one_answer.ensures _ c.command.result c.command.ensures

@@ -1,11 +1,23 @@
-use Rattle.krml_cli.proofs.Ended.{reported, reported_fault, reported_lack}
+use Rattle.std.proofs.Common.{◌∙◌}
+use Rattle.krml_cli.specs.Refusal.{refusal_line}
+use Rattle.krml_cli.specs.Steps.{Reports}
+use Rattle.krml_cli.proofs.Ended.{same_line}
 use Rattle.krml_cli.proofs.krml.report.Goals as goal
 
 pub returns-in-Ok : goal.returns-in-Ok
-returns-in-Ok g c = reported c.args.stop _ _ c.line_of.ensures c.status_of.ensures c.in-Ok.ensures
+returns-in-Ok g c = rw c.in-Refused.is (Reports.made (same_line c.as_bytes.result.now (refusal_line c.in-Refused.why) (c.as_bytes.ensures.value ∙ c.in-Ok.ensures) c.note.ensures))
 
-pub returns-in-Err-Failed : goal.returns-in-Err-Failed
-returns-in-Err-Failed g c = reported_fault c.args.stop _ c.line_of.ensures (rw c.in-Err-Failed.field-0-is at c.in-Err-Failed.ensures)
+pub returns-in-Err : goal.returns-in-Err
+returns-in-Err g c = rw c.in-Refused.is (Reports.unmade c.note-in-Err.ensures)
 
-pub returns-in-Err-NoMemory : goal.returns-in-Err-NoMemory
-returns-in-Err-NoMemory g c = reported_lack c.args.stop _ c.line_of.ensures (rw c.in-Err-NoMemory.field-0-is at c.in-Err-NoMemory.ensures)
+pub returns-in-Usage : goal.returns-in-Usage
+returns-in-Usage g c = rw c.in-Usage.is (Reports.made c.note-in-Usage.ensures)
+
+pub returns-in-ReadFault : goal.returns-in-ReadFault
+returns-in-ReadFault g c = rw c.in-ReadFault.is (Reports.made c.note-in-ReadFault.ensures)
+
+pub returns-in-WriteFault : goal.returns-in-WriteFault
+returns-in-WriteFault g c = rw c.in-WriteFault.is (Reports.made c.note-in-WriteFault.ensures)
+
+pub returns-in-NoMemory : goal.returns-in-NoMemory
+returns-in-NoMemory g c = rw c.in-NoMemory.is (Reports.made c.note-in-NoMemory.ensures)
