@@ -1,0 +1,4 @@
+mod Clap
+mod Decimals
+mod Laws
+mod Requests
