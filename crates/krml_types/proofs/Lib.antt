@@ -1,0 +1,12 @@
+pub mod Blocks
+pub mod Decided
+pub mod Definitions
+pub mod Earlier
+pub mod Expressions
+pub mod Faults
+pub mod Holders
+pub mod Instances
+pub mod Known
+pub mod Parts
+pub mod Patterns
+pub mod Scopes

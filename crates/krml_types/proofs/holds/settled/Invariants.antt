@@ -1,0 +1,9 @@
+use Rattle.std.proofs.Common.{◌≡◌}
+use Rattle.krml_types.specs.Holds.{rounds, holders}
+use Rattle.krml_types.proofs.holds.settled.Given as goal
+
+abbrev pub invariant-loop-left : goal.invariant-loop-left
+invariant-loop-left l = rounds l.left l.defs l.table ≡ holders l.defs
+
+abbrev pub decreases-loop-left : goal.decreases-loop-left
+decreases-loop-left l = l.left

@@ -1,0 +1,100 @@
+-- Types: which are well formed in a file, and which hold buffers.
+use Rattle.std.specs.Prelude.{◌≡◌, ℕ, Bool, true, false, if◌then◌else◌, List, [], ◌∷◌, length, Some}
+use Rattle.std.specs.List.{Contains}
+use Rattle.std.specs.Str.{bytes_eq}
+use Rattle.krml_trace.specs.declared.width.Width.TheVariants.{W32}
+use Rattle.krml_ast.specs.declared.tree.IntTy.{IntTy}
+use Rattle.krml_ast.specs.declared.tree.Ty.{Ty, out-Ty}
+use Rattle.krml_ast.specs.declared.tree.Ty.TheVariants as t
+use Rattle.krml_ast.specs.declared.tree.Ty.TheOpen.{Ty-F}
+use Rattle.krml_ast.specs.declared.tree.Ty.TheFolds.{fold-Ty}
+use Rattle.krml_ast.specs.declared.tree.Field.{Field}
+use Rattle.krml_ast.specs.declared.tree.Def.{Def}
+use Rattle.krml_types.specs.Names.{Composite, Struct, Sum, type_named}
+
+-- ---- labels erased
+
+abbrev pub public : IntTy → IntTy
+public i = record { width = i.width; secret = false }
+
+abbrev pub level_erased : Ty-F Ty → Ty
+level_erased Ty-F.Bool = t.Bool
+level_erased Ty-F.Unit = t.Unit
+level_erased (Ty-F.Int i) = t.Int (public i)
+level_erased (Ty-F.Buf a) = t.Buf a
+level_erased (Ty-F.Var x) = t.Var x
+level_erased (Ty-F.Named x ts) = t.Named x ts
+
+-- the type with each integer type as the public one of its width
+abbrev pub erased : Ty → Ty
+erased = fold-Ty Ty level_erased
+
+abbrev pub int_ty : IntTy → Ty
+int_ty i = t.Int (public i)
+
+-- the type of an index
+abbrev pub u32 : Ty
+u32 = t.Int (record { width = W32; secret = false })
+
+-- ---- type arguments
+
+-- the argument of a type variable; a variable that has none stays
+abbrev pub argument_of : List (List ℕ) → List Ty → List ℕ → Ty
+argument_of (v ∷ vars) (a ∷ args) x = if bytes_eq v x then a else argument_of vars args x
+argument_of _ _ x = t.Var x
+
+abbrev pub level_at : List (List ℕ) → List Ty → Ty-F Ty → Ty
+level_at vars args Ty-F.Bool = t.Bool
+level_at vars args Ty-F.Unit = t.Unit
+level_at vars args (Ty-F.Int i) = t.Int i
+level_at vars args (Ty-F.Buf a) = t.Buf a
+level_at vars args (Ty-F.Var x) = argument_of vars args x
+level_at vars args (Ty-F.Named x ts) = t.Named x ts
+
+-- a type with arguments in place of type variables
+abbrev pub type_at : List (List ℕ) → List Ty → Ty → Ty
+type_at vars args = fold-Ty Ty (level_at vars args)
+
+-- ---- values and buffers
+
+abbrev pub is_unit_in : Ty-F Ty → Bool
+is_unit_in Ty-F.Unit = true
+is_unit_in _ = false
+
+-- A type of values: any but `unit`.
+abbrev pub IsValue : Ty → Type 0
+IsValue a = is_unit_in (out-Ty a) ≡ false
+
+-- A type holds a buffer where it is one, or a struct with a field that holds one.
+pub data HoldsBuffer (defs : List Def) : Ty → Type 0 where
+  buffer : (a : Ty) → HoldsBuffer defs (t.Buf a)
+  field : {x : List ℕ} (args : List Ty) {vars : List (List ℕ)} {fields : List Field} {f : Field}
+      → type_named defs x ≡ Some (Struct vars fields) → Contains fields f → HoldsBuffer defs f.ty → HoldsBuffer defs (t.Named x args)
+
+-- A type of values that holds no buffer.
+pub record IsFlat (defs : List Def) (a : Ty) : Type 0 where
+  pub value : IsValue a
+  pub flat : HoldsBuffer defs a → ⊥
+
+abbrev pub vars_of : Composite → List (List ℕ)
+vars_of (Struct vars fields) = vars
+vars_of (Sum vars cons) = vars
+
+mutual
+  -- A type is well formed among definitions of a file, in a definition with these type variables.
+  pub data IsType (defs : List Def) (vars : List (List ℕ)) : Ty → Type 0 where
+    bool : IsType defs vars t.Bool
+    unit : IsType defs vars t.Unit
+    int : (i : IntTy) → IsType defs vars (t.Int i)
+    -- the elements of a buffer are flat
+    buf : (a : Ty) → IsType defs vars a → IsFlat defs a → IsType defs vars (t.Buf a)
+    -- a type variable is one of the definition
+    var : {x : List ℕ} → Contains vars x → IsType defs vars (t.Var x)
+    -- a struct or sum of the file, with as many arguments as it has type variables
+    named : {x : List ℕ} {c : Composite} {args : List Ty} → type_named defs x ≡ Some c → length args ≡ length (vars_of c) → AreArguments defs vars args
+        → IsType defs vars (t.Named x args)
+
+  -- type arguments are flat
+  pub data AreArguments (defs : List Def) (vars : List (List ℕ)) : List Ty → Type 0 where
+    none : AreArguments defs vars []
+    one : {a : Ty} {args : List Ty} → IsType defs vars a → IsFlat defs a → AreArguments defs vars args → AreArguments defs vars (a ∷ args)

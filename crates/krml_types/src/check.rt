@@ -1,0 +1,39 @@
+ghost use Rattle.std.specs.Prelude.{◌≡◌, IfOk};
+ghost use Rattle.krml_types.specs.Check.{fault_from, first_fault, IsChecked};
+
+use crate::definition::is_well_typed;
+use crate::index::Index;
+use crate::refusal::TypeRefusal;
+use crate::typed_file::TypedFile;
+use krml_ast::{Def, SourceFile};
+use krml_trace::NoMemory;
+use std::alloc::Global;
+
+#[tactic(auto, unfolding(crate::specs::Check::first_fault))]
+fn first_fault(alloc: Global, defs: &[Def]) -> Result<Option<usize>, NoMemory>
+    ensures { IfOk result (λ r. r ≡ first_fault defs.now) }
+{
+    let index = Index::new(alloc, defs)?;
+    let mut k = 0;
+    for def in defs {
+        if !is_well_typed(alloc, &index, &defs[..k], def)? {
+            return Ok(Some(k));
+        }
+        k += 1;
+    }
+    Ok(None)
+}
+
+/// The file with its types, where all its definitions are well typed. Else `Fault` has the place of the first that is not.
+pub fn check_types(alloc: Global, file: SourceFile) -> Result<TypedFile, TypeRefusal>
+    ensures typed { IfOk result (λ r. r ≡ file) }
+    ensures answer { IsChecked file.defs result }
+{
+    match first_fault(alloc, file.defs.as_slice())? {
+        None => Ok(TypedFile::new(file)),
+        Some(k) => match u32::try_from(k) {
+            Ok(def) => Err(TypeRefusal::Fault { def }),
+            Err(_) => Err(TypeRefusal::NoMemory),
+        },
+    }
+}

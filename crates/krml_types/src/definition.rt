@@ -1,0 +1,225 @@
+//! Which definitions are well typed, each behind the definitions before it.
+
+ghost use Rattle.std.specs.Prelude.{◌≡◌, IfOk};
+ghost use Rattle.krml_ast.specs.declared.tree.Ty.{out-Ty};
+ghost use Rattle.krml_types.specs.Names.{fun_named};
+ghost use Rattle.krml_types.specs.Expressions.{is_result as is_result_ty};
+ghost use Rattle.krml_types.specs.Definitions.{are_fields, are_cons, all_fit, param_vars, is_body, is_int_in, is_outside_in, are_outside, is_answer_in, is_entry, fun_ok, well_typed};
+
+use crate::expression::Context;
+use crate::formed::{are_arguments_among, is_flat, is_type_among, is_value};
+use crate::index::Index;
+use crate::kind::NameKind;
+use crate::names::{all_new, are_cons_distinct, are_distinct, are_fields_distinct, is_new};
+use crate::scope::Scope;
+use crate::types::{erased, is_unit, same_ty};
+use crate::untyped::Untyped;
+use crate::vars::Vars;
+use krml_ast::{Con, Def, Expr, Field, IntTy, Ty};
+use krml_trace::{Name, NoMemory};
+use std::alloc::{AllocError, Global};
+
+fn are_fields(index: &Index<'_>, known: &[Def], tvars: &[Name], fields: &[Field]) -> bool
+    ensures { result ≡ are_fields known.now index.now tvars.now fields.now }
+{
+    for field in fields {
+        if !(is_type_among(index, known, tvars, &field.ty) && is_value(&field.ty)) {
+            return false;
+        }
+    }
+    true
+}
+
+fn are_cons(index: &Index<'_>, known: &[Def], tvars: &[Name], cons: &[Con]) -> bool
+    ensures { result ≡ are_cons known.now index.now tvars.now cons.now }
+{
+    for con in cons {
+        if !are_arguments_among(index, known, tvars, con.args.as_slice()) {
+            return false;
+        }
+    }
+    true
+}
+
+fn all_fit(i: IntTy, nums: &[u64]) -> bool
+    ensures { result ≡ all_fit i nums.now }
+{
+    for n in nums {
+        if !i.width.fits(*n) {
+            return false;
+        }
+    }
+    true
+}
+
+/// The parameters as variables, the first one the newest.
+fn param_vars(alloc: Global, params: &[Field]) -> Result<Vars, NoMemory>
+    ensures { IfOk result (λ r. r ≡ param_vars params.now) }
+{
+    let [param, rest @ ..] = params else {
+        return Ok(Vars::new(alloc));
+    };
+    let mut vars = param_vars(alloc, rest)?;
+    let name = Name::new(alloc, param.name.as_bytes())?;
+    vars.push(name, erased(alloc, &param.ty)?)?;
+    Ok(vars)
+}
+
+/// Whether a function may give values of a type.
+fn is_result(index: &Index<'_>, a: &Ty) -> bool
+    ensures { result ≡ is_result_ty index.now a.now }
+{
+    is_unit(a) || is_flat(index, a)
+}
+
+/// Whether a function's body has the type of its result.
+fn is_body(
+    alloc: Global,
+    index: &Index<'_>,
+    tvars: &[Name],
+    params: &[Field],
+    gives: &Ty,
+    body: &Expr,
+) -> Result<bool, NoMemory>
+    ensures { IfOk result (λ r. r ≡ is_body index.now tvars.now params.now gives.now body.now) }
+{
+    let mut scope = Scope::new(param_vars(alloc, params)?);
+    let gives = erased(alloc, gives)?;
+    let context = Context {
+        alloc,
+        index,
+        tvars,
+    };
+    let found = context.type_of(&mut scope, body);
+    let Context {
+        alloc: _,
+        index: _,
+        tvars: _own,
+    } = context;
+    match found {
+        Ok(a) => Ok(same_ty(&a, &gives)),
+        Err(Untyped::Fault) => Ok(false),
+        Err(Untyped::NoMemory) => Err(AllocError),
+    }
+}
+
+fn is_fun(
+    alloc: Global,
+    index: &Index<'_>,
+    tvars: &[Name],
+    params: &[Field],
+    gives: &Ty,
+    body: &Expr,
+) -> Result<bool, NoMemory>
+    ensures { IfOk result (λ r. r ≡ fun_ok index.now tvars.now params.now gives.now body.now) }
+{
+    let head = are_distinct(tvars)
+        && are_fields_distinct(params)
+        && are_fields(index, index.defs(), tvars, params)
+        && is_type_among(index, index.defs(), tvars, gives)
+        && is_result(index, gives);
+    if !head {
+        return Ok(false);
+    }
+    is_body(alloc, index, tvars, params, gives, body)
+}
+
+fn is_int(a: &Ty) -> bool
+    ensures { result ≡ is_int_in (out-Ty a.now) }
+{
+    matches!(a, Ty::Int(_))
+}
+
+/// Whether a caller from outside can give arguments of a type.
+fn is_outside(a: &Ty) -> bool
+    ensures { result ≡ is_outside_in (out-Ty a.now) }
+{
+    match a {
+        Ty::Bool => true,
+        Ty::Int(_) => true,
+        Ty::Buf(b) => is_int(b.get()),
+        _ => false,
+    }
+}
+
+fn are_outside(params: &[Field]) -> bool
+    ensures { result ≡ are_outside params.now }
+{
+    for param in params {
+        if !is_outside(&param.ty) {
+            return false;
+        }
+    }
+    true
+}
+
+/// Whether a caller from outside can take results of a type.
+fn is_answer(a: &Ty) -> bool
+    ensures { result ≡ is_answer_in (out-Ty a.now) }
+{
+    match a {
+        Ty::Unit => true,
+        Ty::Bool => true,
+        Ty::Int(_) => true,
+        _ => false,
+    }
+}
+
+/// Whether a function that can be called from outside has the name.
+fn is_entry(index: &Index<'_>, x: &Name) -> bool
+    ensures { result ≡ is_entry (fun_named index.now x.now) }
+{
+    match index.fun_named(x) {
+        Some(f) => f.vars.is_empty() && are_outside(f.params) && is_answer(f.result),
+        None => false,
+    }
+}
+
+/// Whether a definition is well typed behind those before it.
+pub fn is_well_typed(
+    alloc: Global,
+    index: &Index<'_>,
+    before: &[Def],
+    def: &Def,
+) -> Result<bool, NoMemory>
+    ensures { IfOk result (λ r. r ≡ well_typed index.now before.now def.now) }
+{
+    match def {
+        Def::Struct { name, vars, fields } => Ok(
+            is_new(NameKind::Type, before, name)
+                && are_distinct(vars.as_slice())
+                && are_fields_distinct(fields.as_slice())
+                && are_fields(index, before, vars.as_slice(), fields.as_slice()),
+        ),
+        Def::Sum { name, vars, cons } => Ok(
+            is_new(NameKind::Type, before, name)
+                && (are_cons_distinct(cons.as_slice()) && all_new(before, cons.as_slice()))
+                && are_distinct(vars.as_slice())
+                && are_cons(index, before, vars.as_slice(), cons.as_slice()),
+        ),
+        Def::Table { name, ty, nums } => {
+            Ok(is_new(NameKind::Table, before, name) && all_fit(*ty, nums.as_slice()))
+        }
+        Def::Fun {
+            name,
+            vars,
+            params,
+            result,
+            body,
+        } => {
+            if is_new(NameKind::Fun, before, name) {
+                is_fun(
+                    alloc,
+                    index,
+                    vars.as_slice(),
+                    params.as_slice(),
+                    result,
+                    body,
+                )
+            } else {
+                Ok(false)
+            }
+        }
+        Def::Entry { name } => Ok(is_new(NameKind::Entry, before, name) && is_entry(index, name)),
+    }
+}

@@ -1,0 +1,27 @@
+//! The types of a source file: which definitions are well typed.
+#![tactic(auto)]
+
+mod check;
+mod definition;
+mod expression;
+mod formed;
+mod holds;
+mod index;
+mod instance;
+mod kind;
+mod names;
+mod part;
+mod pattern;
+mod refusal;
+mod scope;
+mod typed_file;
+mod types;
+mod untyped;
+mod vars;
+
+pub use check::check_types;
+pub use refusal::TypeRefusal;
+pub use typed_file::TypedFile;
+
+#[cfg(test)]
+mod tests;

@@ -1,0 +1,43 @@
+ghost use Rattle.std.specs.Prelude.{◌≡◌, None};
+ghost use Rattle.krml_types.specs.WellTyped.{AreWellTyped};
+ghost use Rattle.krml_types.specs.Check.{first_fault};
+
+use krml_ast::SourceFile;
+use std::marker::Model;
+
+/// A file whose definitions are well typed.
+#[derive(Drop)]
+pub struct TypedFile {
+    inner: SourceFile,
+    ghost typed: { first_fault inner.defs ≡ None },
+}
+
+impl Model for TypedFile {
+    ghost use Rattle.std.specs.Coded.{codes};
+    ghost use Rattle.krml_ast.specs.declared.tree.SourceFile.{SourceFile as Tree};
+    ghost use Rattle.krml_ast.specs.contracts.tree.Ty as ty;
+    ghost use Rattle.krml_ast.specs.contracts.tree.Expr as expr;
+
+    ghost Value = { Tree };
+
+    ghost coded = { Prim.hlevel (codes, ty.the_row.coded, expr.the_row.coded) };
+
+    ghost view = { λ s. s.inner };
+}
+
+impl TypedFile {
+    pub(crate) fn new(inner: SourceFile) -> TypedFile
+        requires { first_fault inner.defs ≡ None }
+        ensures { result ≡ inner }
+    {
+        TypedFile { inner }
+    }
+
+    /// The file.
+    pub fn file(&self) -> &SourceFile
+        ensures value { result.now ≡ self.now }
+        ensures typed { AreWellTyped self.now.defs }
+    {
+        &self.inner
+    }
+}
