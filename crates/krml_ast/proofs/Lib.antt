@@ -1,3 +1,1 @@
 pub mod Evals
-pub mod Numbers
-pub mod Only

@@ -6,7 +6,7 @@ use Rattle.krml_trace.specs.Run.{Goes, Ends, with_some}
 use Rattle.krml_ast.specs.declared.evaluate.Step.{Step}
 use Rattle.krml_ast.specs.declared.evaluate.Step.TheVariants as step
 use Rattle.krml_ast.specs.declared.value.Value.{Value}
-use Rattle.krml_ast.specs.declared.tree.Def.{Def}
+use Rattle.krml_syntax.specs.declared.tree.Def.{Def}
 use Rattle.krml_ast.specs.Meaning.{SourceState, SourceRan, Start, eval, function_named, start_of}
 
 -- An answer in the state that it leaves, as a run.

@@ -1,8 +1,6 @@
 pub mod Evaluate
-pub mod File
-pub mod Limits
+pub mod IsType
 pub mod Meaning
-pub mod Name
-pub mod Number
-pub mod Read
-pub mod Spelling
+pub mod Names
+pub mod Typing
+pub mod WellTyped

@@ -7,8 +7,8 @@ ghost use Rattle.krml_ast.specs.Meaning.{look, as_number, as_truth, passed, with
 
 use crate::event::SourceEvent;
 use crate::run::SourceRun;
-use crate::tree::{BinOp, CmpOp, Def, Expr, Field, SourceFile, Ty};
 use crate::value::{Value, Variable};
+use krml_syntax::{BinOp, CmpOp, Def, Expr, Field, SourceFile, Ty};
 use krml_trace::{Arg, Arguments, Bound, Name, NoMemory, Outcome, Seq, Why, Width};
 use std::alloc::Global;
 use std::marker::Model;
@@ -31,7 +31,7 @@ impl Model for Evaluator {
     ghost use Rattle.std.specs.Prelude.{[], reverse};
     ghost use Rattle.std.specs.Coded.{codes};
     ghost use Rattle.krml_ast.specs.Meaning.{SourceState};
-    ghost use Rattle.krml_ast.specs.contracts.tree.Ty as ty;
+    ghost use Rattle.krml_syntax.specs.contracts.tree.Ty as ty;
 
     ghost Value = { SourceState };
 

@@ -1,4 +1,4 @@
-use crate::tree::{Slot, Ty};
+use krml_syntax::{Slot, Ty};
 use krml_trace::Seq;
 
 /// What a run of the source leaves as events. Blocks are numbered from 0, and positions are positions in a block.

@@ -9,8 +9,8 @@ use Rattle.krml_cli.specs.declared.refusal.FileRefusal.TheVariants as refusal
 use Rattle.krml_cli.specs.declared.stop.Stop.{Stop}
 use Rattle.krml_cli.specs.declared.stop.Stop.TheVariants as stop
 use Rattle.krml_cli.specs.Ends.{IsCompile, Taken, CompilesTo, SpelledAlone, AppendsPrefix, WritesAll, Call, Unwritten, Stops, Ends, line_of, status_of}
-use Rattle.krml_ast.specs.declared.tree.SourceFile.{SourceFile}
-use Rattle.krml_ast.specs.File.{SpellsFile}
+use Rattle.krml_syntax.specs.declared.tree.SourceFile.{SourceFile}
+use Rattle.krml_syntax.specs.File.{SpellsFile}
 use Rattle.krml_reader.specs.declared.refusal.ReadRefusal.{ReadRefusal}
 use Rattle.krml_reader.specs.declared.refusal.ReadRefusal.TheVariants as r
 use Rattle.krml_reader.specs.Read.{IsRefused}

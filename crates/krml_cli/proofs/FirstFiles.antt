@@ -9,24 +9,24 @@ use Rattle.std.proofs.lemmas.Map.Views.{Contains-from_any, list_any-from_Contain
 use Rattle.std.proofs.lemmas.Slice.Eq.{bytes_eq-Decides}
 use Rattle.krml_trace.specs.declared.width.Width.{Width}
 use Rattle.krml_trace.specs.declared.width.Width.TheVariants.{W8, W32, W64}
-use Rattle.krml_ast.specs.declared.tree.IntTy.{IntTy}
-use Rattle.krml_ast.specs.declared.tree.Ty.{Ty}
-use Rattle.krml_ast.specs.declared.tree.Ty.TheVariants as t
-use Rattle.krml_ast.specs.declared.tree.Field.{Field}
-use Rattle.krml_ast.specs.declared.tree.BinOp.TheVariants as binop
-use Rattle.krml_ast.specs.declared.tree.BinOp.TheVariants.{Add}
-use Rattle.krml_ast.specs.declared.tree.CmpOp.TheVariants as cmpop
-use Rattle.krml_ast.specs.declared.tree.CmpOp.TheVariants.{Lt}
-use Rattle.krml_ast.specs.declared.tree.Item.{Item}
-use Rattle.krml_ast.specs.declared.tree.Arm.{Arm}
-use Rattle.krml_ast.specs.declared.tree.Case.{Case}
-use Rattle.krml_ast.specs.declared.tree.Expr.{Expr, out-Expr, roll-Expr, roll-out-Expr, out-roll-Expr, map-Expr}
-use Rattle.krml_ast.specs.declared.tree.Expr.TheOpen.{Expr-F}
-use Rattle.krml_ast.specs.declared.tree.Expr.TheVariants as e
-use Rattle.krml_ast.specs.declared.tree.Expr.TheFolds.{fold_out-Expr, ind-Expr}
-use Rattle.krml_ast.specs.declared.tree.Def.{Def}
-use Rattle.krml_ast.specs.declared.tree.Def.TheVariants as d
-use Rattle.krml_ast.specs.declared.tree.SourceFile.{SourceFile}
+use Rattle.krml_syntax.specs.declared.tree.IntTy.{IntTy}
+use Rattle.krml_syntax.specs.declared.tree.Ty.{Ty}
+use Rattle.krml_syntax.specs.declared.tree.Ty.TheVariants as t
+use Rattle.krml_syntax.specs.declared.tree.Field.{Field}
+use Rattle.krml_syntax.specs.declared.tree.BinOp.TheVariants as binop
+use Rattle.krml_syntax.specs.declared.tree.BinOp.TheVariants.{Add}
+use Rattle.krml_syntax.specs.declared.tree.CmpOp.TheVariants as cmpop
+use Rattle.krml_syntax.specs.declared.tree.CmpOp.TheVariants.{Lt}
+use Rattle.krml_syntax.specs.declared.tree.Item.{Item}
+use Rattle.krml_syntax.specs.declared.tree.Arm.{Arm}
+use Rattle.krml_syntax.specs.declared.tree.Case.{Case}
+use Rattle.krml_syntax.specs.declared.tree.Expr.{Expr, out-Expr, roll-Expr, roll-out-Expr, out-roll-Expr, map-Expr}
+use Rattle.krml_syntax.specs.declared.tree.Expr.TheOpen.{Expr-F}
+use Rattle.krml_syntax.specs.declared.tree.Expr.TheVariants as e
+use Rattle.krml_syntax.specs.declared.tree.Expr.TheFolds.{fold_out-Expr, ind-Expr}
+use Rattle.krml_syntax.specs.declared.tree.Def.{Def}
+use Rattle.krml_syntax.specs.declared.tree.Def.TheVariants as d
+use Rattle.krml_syntax.specs.declared.tree.SourceFile.{SourceFile}
 use Rattle.krml_cli.specs.First.{u32, u32_param, IsFirst, IsFirstFile}
 use Rattle.krml_cli.specs.FirstFile.{is_u32, is_u32_ty, is_param, are_distinct, are_first_params, First, are_operands, no_first, level_first, first_of, is_first_fun, are_first_defs}
 

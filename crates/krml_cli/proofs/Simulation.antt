@@ -13,9 +13,9 @@ use Rattle.krml_ast.specs.declared.event.SourceEvent.TheVariants as event
 use Rattle.krml_ast.specs.declared.value.Value.{Value}
 use Rattle.krml_ast.specs.declared.value.Value.TheVariants as value
 use Rattle.krml_ast.specs.declared.value.Variable.{Variable}
-use Rattle.krml_ast.specs.declared.tree.CmpOp.TheVariants.{Lt}
-use Rattle.krml_ast.specs.declared.tree.Expr.{Expr}
-use Rattle.krml_ast.specs.declared.tree.Expr.TheVariants as e
+use Rattle.krml_syntax.specs.declared.tree.CmpOp.TheVariants.{Lt}
+use Rattle.krml_syntax.specs.declared.tree.Expr.{Expr}
+use Rattle.krml_syntax.specs.declared.tree.Expr.TheVariants as e
 use Rattle.krml_ast.specs.Meaning as src
 use Rattle.krml_ast.specs.Meaning.{Scope, Sem, SourceState, SourceRan, eval}
 use Rattle.krml_ast.proofs.Evals as is

@@ -1,12 +1,12 @@
 -- What each form of the source becomes: the equations of the translation.
 use Rattle.std.proofs.Common.{◌≡◌, ℕ, List}
 use Rattle.krml_trace.specs.declared.width.Width.TheVariants.{W8}
-use Rattle.krml_ast.specs.declared.tree.IntTy.{IntTy}
-use Rattle.krml_ast.specs.declared.tree.BinOp.TheVariants.{Add}
-use Rattle.krml_ast.specs.declared.tree.CmpOp.TheVariants.{Lt}
-use Rattle.krml_ast.specs.declared.tree.Expr.{Expr}
-use Rattle.krml_ast.specs.declared.tree.Expr.TheVariants as e
-use Rattle.krml_ast.specs.declared.tree.Expr.TheFolds.{fold_out-Expr}
+use Rattle.krml_syntax.specs.declared.tree.IntTy.{IntTy}
+use Rattle.krml_syntax.specs.declared.tree.BinOp.TheVariants.{Add}
+use Rattle.krml_syntax.specs.declared.tree.CmpOp.TheVariants.{Lt}
+use Rattle.krml_syntax.specs.declared.tree.Expr.{Expr}
+use Rattle.krml_syntax.specs.declared.tree.Expr.TheVariants as e
+use Rattle.krml_syntax.specs.declared.tree.Expr.TheFolds.{fold_out-Expr}
 use Rattle.krml_ctree.specs.declared.tree.CBin.TheVariants as c_bin
 use Rattle.krml_ctree.specs.declared.tree.CmpKind.TheVariants as c_cmp
 use Rattle.krml_ctree.specs.declared.tree.CExpr.TheVariants as c

@@ -15,10 +15,10 @@ use Rattle.krml_trace.proofs.Simulates.{Simulates, image_state, goes, sim_more}
 use Rattle.krml_ast.specs.declared.value.Value.{Value}
 use Rattle.krml_ast.specs.declared.value.Value.TheVariants as value
 use Rattle.krml_ast.specs.declared.value.Variable.{Variable}
-use Rattle.krml_ast.specs.declared.tree.Ty.TheVariants as t
-use Rattle.krml_ast.specs.declared.tree.Expr.{Expr}
-use Rattle.krml_ast.specs.declared.tree.Def.TheVariants as d
-use Rattle.krml_ast.specs.declared.tree.SourceFile.{SourceFile}
+use Rattle.krml_syntax.specs.declared.tree.Ty.TheVariants as t
+use Rattle.krml_syntax.specs.declared.tree.Expr.{Expr}
+use Rattle.krml_syntax.specs.declared.tree.Def.TheVariants as d
+use Rattle.krml_syntax.specs.declared.tree.SourceFile.{SourceFile}
 use Rattle.krml_ast.specs.Meaning as src
 use Rattle.krml_ast.specs.Meaning.{Scope, SourceState, SourceRan, eval, source_steps, source_run}
 use Rattle.krml_ctree.specs.declared.value.CValue.{CValue}

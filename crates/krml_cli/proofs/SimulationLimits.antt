@@ -6,22 +6,22 @@ use Rattle.krml_forms.specs.declared.form.Form.{Form}
 use Rattle.krml_forms.specs.declared.form.Form.TheVariants as form
 use Rattle.krml_forms.specs.declared.form.Form.TheFolds.{fold_out-Form}
 use Rattle.krml_forms.specs.Levels.{form_count}
-use Rattle.krml_ast.specs.declared.limit.LimitKind.{LimitKind}
-use Rattle.krml_ast.specs.declared.limit.LimitKind.TheVariants as k
-use Rattle.krml_ast.specs.declared.tree.IntTy.{IntTy}
-use Rattle.krml_ast.specs.declared.tree.BinOp.{BinOp}
-use Rattle.krml_ast.specs.declared.tree.BinOp.TheVariants as binop
-use Rattle.krml_ast.specs.declared.tree.CmpOp.{CmpOp}
-use Rattle.krml_ast.specs.declared.tree.CmpOp.TheVariants as cmpop
-use Rattle.krml_ast.specs.declared.tree.Expr.{Expr}
-use Rattle.krml_ast.specs.declared.tree.Expr.TheVariants as e
-use Rattle.krml_ast.specs.declared.tree.Expr.TheFolds.{fold_out-Expr}
-use Rattle.krml_ast.specs.declared.tree.Def.{Def}
-use Rattle.krml_ast.specs.declared.tree.Def.TheVariants as d
-use Rattle.krml_ast.specs.declared.tree.SourceFile.{SourceFile}
-use Rattle.krml_ast.specs.File.{SpellsFile}
-use Rattle.krml_ast.specs.Limits.{counts_in, counts_each, first_above, excess, excess_or, first_excess_of}
-use Rattle.krml_ast.specs.Spelling.{Each, Spells, SpellsDef, SpellsDefs}
+use Rattle.krml_syntax.specs.declared.limit.LimitKind.{LimitKind}
+use Rattle.krml_syntax.specs.declared.limit.LimitKind.TheVariants as k
+use Rattle.krml_syntax.specs.declared.tree.IntTy.{IntTy}
+use Rattle.krml_syntax.specs.declared.tree.BinOp.{BinOp}
+use Rattle.krml_syntax.specs.declared.tree.BinOp.TheVariants as binop
+use Rattle.krml_syntax.specs.declared.tree.CmpOp.{CmpOp}
+use Rattle.krml_syntax.specs.declared.tree.CmpOp.TheVariants as cmpop
+use Rattle.krml_syntax.specs.declared.tree.Expr.{Expr}
+use Rattle.krml_syntax.specs.declared.tree.Expr.TheVariants as e
+use Rattle.krml_syntax.specs.declared.tree.Expr.TheFolds.{fold_out-Expr}
+use Rattle.krml_syntax.specs.declared.tree.Def.{Def}
+use Rattle.krml_syntax.specs.declared.tree.Def.TheVariants as d
+use Rattle.krml_syntax.specs.declared.tree.SourceFile.{SourceFile}
+use Rattle.krml_syntax.specs.File.{SpellsFile}
+use Rattle.krml_syntax.specs.Limits.{counts_in, counts_each, first_above, excess, excess_or, first_excess_of}
+use Rattle.krml_syntax.specs.Spelling.{Each, Spells, SpellsDef, SpellsDefs}
 use Rattle.krml_cli.specs.Translation.{Names, no_code, code_of}
 use Rattle.krml_cli.proofs.SimulationCode as code
 

@@ -5,13 +5,13 @@ use Rattle.std.specs.List.{Contains, AllByRecursion, IsDistinct, flat_map}
 use Rattle.std.specs.Str.{bytes_eq}
 use Rattle.krml_trace.specs.Name.{IsName}
 use Rattle.krml_forms.specs.declared.form.Form.{Form}
-use Rattle.krml_ast.specs.declared.tree.Ty.TheVariants as t
-use Rattle.krml_ast.specs.declared.tree.Field.{Field}
-use Rattle.krml_ast.specs.declared.tree.Expr.{Expr}
-use Rattle.krml_ast.specs.declared.tree.Def.{Def}
-use Rattle.krml_ast.specs.declared.tree.Def.TheVariants as d
-use Rattle.krml_ast.specs.declared.tree.SourceFile.{SourceFile}
-use Rattle.krml_ast.specs.Spelling.{Each, SpellsField, SpellsDef, SpellsDefs}
+use Rattle.krml_syntax.specs.declared.tree.Ty.TheVariants as t
+use Rattle.krml_syntax.specs.declared.tree.Field.{Field}
+use Rattle.krml_syntax.specs.declared.tree.Expr.{Expr}
+use Rattle.krml_syntax.specs.declared.tree.Def.{Def}
+use Rattle.krml_syntax.specs.declared.tree.Def.TheVariants as d
+use Rattle.krml_syntax.specs.declared.tree.SourceFile.{SourceFile}
+use Rattle.krml_syntax.specs.Spelling.{Each, SpellsField, SpellsDef, SpellsDefs}
 use Rattle.krml_ctree.specs.declared.tree.CType.TheVariants.{U32}
 use Rattle.krml_ctree.specs.declared.tree.CVar.{CVar}
 use Rattle.krml_ctree.specs.declared.tree.CFun.{CFun}

@@ -6,9 +6,9 @@ use Rattle.std.proofs.lemmas.List.Elements.{Contains-append_right}
 use Rattle.std.proofs.lemmas.List.Folds.{flat_map-map}
 use Rattle.std.specs.List.{Contains, flat_map}
 use Rattle.krml_trace.specs.declared.width.Width.TheVariants.{W8, W32}
-use Rattle.krml_ast.specs.declared.tree.CmpOp.TheVariants.{Lt}
-use Rattle.krml_ast.specs.declared.tree.Expr.{Expr}
-use Rattle.krml_ast.specs.declared.tree.Expr.TheVariants as e
+use Rattle.krml_syntax.specs.declared.tree.CmpOp.TheVariants.{Lt}
+use Rattle.krml_syntax.specs.declared.tree.Expr.{Expr}
+use Rattle.krml_syntax.specs.declared.tree.Expr.TheVariants as e
 use Rattle.krml_ctree.specs.declared.tree.CType.{CType}
 use Rattle.krml_ctree.specs.declared.tree.CType.TheVariants.{U8, U32}
 use Rattle.krml_ctree.specs.declared.tree.CVar.{CVar}

@@ -1,6 +1,6 @@
 -- What an emitter does.
 use Rattle.std.specs.Prelude.{◌+◌, List, ◌++◌, length}
-use Rattle.krml_ast.specs.declared.tree.Field.{Field}
+use Rattle.krml_syntax.specs.declared.tree.Field.{Field}
 use Rattle.krml_cli.specs.Translation.{Comp, scope}
 use Rattle.krml_cli.specs.declared.emitter.Emitter.{Emitter}
 

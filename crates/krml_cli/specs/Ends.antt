@@ -7,7 +7,7 @@ use Rattle.krml_trace.specs.declared.arguments.Arguments.{Arguments}
 use Rattle.krml_trace.specs.declared.bound.Bound.{Bound}
 use Rattle.krml_trace.specs.declared.outside.SinkFault.{SinkFault}
 use Rattle.krml_trace.specs.declared.outside.SinkFault.TheVariants as fault
-use Rattle.krml_ast.specs.declared.tree.SourceFile.{SourceFile}
+use Rattle.krml_syntax.specs.declared.tree.SourceFile.{SourceFile}
 use Rattle.krml_cli.specs.First.{IsFirstFile, SpellsFirst}
 use Rattle.krml_ast.specs.Meaning.{ArgumentsFit, source_run}
 use Rattle.krml_ctree.specs.declared.tree.CProgram.{CProgram}

@@ -1,10 +1,10 @@
 -- Why an input is refused, and the words for it.
 use Rattle.std.specs.Prelude.{ℕ, List, ◌++◌, codes, Err}
 use Rattle.std.specs.Fmt.{decimal}
-use Rattle.krml_ast.specs.declared.limit.LimitKind.{LimitKind}
-use Rattle.krml_ast.specs.declared.limit.LimitKind.TheVariants as k
-use Rattle.krml_ast.specs.declared.tree.SourceFile.{SourceFile}
-use Rattle.krml_ast.specs.File.{SpellsFile}
+use Rattle.krml_syntax.specs.declared.limit.LimitKind.{LimitKind}
+use Rattle.krml_syntax.specs.declared.limit.LimitKind.TheVariants as k
+use Rattle.krml_syntax.specs.declared.tree.SourceFile.{SourceFile}
+use Rattle.krml_syntax.specs.File.{SpellsFile}
 use Rattle.krml_reader.specs.declared.refusal.ReadRefusal.{ReadRefusal}
 use Rattle.krml_reader.specs.declared.refusal.ReadRefusal.TheVariants as r
 use Rattle.krml_reader.specs.Read.{Reads}

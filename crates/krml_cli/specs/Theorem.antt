@@ -6,7 +6,7 @@ use Rattle.krml_trace.specs.declared.outcome.Outcome.{Outcome}
 use Rattle.krml_trace.specs.declared.outcome.Outcome.TheVariants as outcome
 use Rattle.krml_trace.specs.Run.{NotStuck}
 use Rattle.krml_ast.specs.declared.run.SourceRun.{SourceRun}
-use Rattle.krml_ast.specs.declared.tree.SourceFile.{SourceFile}
+use Rattle.krml_syntax.specs.declared.tree.SourceFile.{SourceFile}
 use Rattle.krml_ast.specs.Meaning.{ArgumentsFit, source_run}
 use Rattle.krml_ctree.specs.declared.run.CRun.{CRun}
 use Rattle.krml_ctree.specs.declared.tree.CProgram.{CProgram}

@@ -2,7 +2,7 @@ ghost use Rattle.std.specs.Prelude.{◌≡◌, ◌↔◌, ◌<◌, ◌≤◌, �
 ghost use Rattle.std.specs.String.{string_bytes};
 ghost use Rattle.std.specs.Io.KnownBytes.{Appends, Keeps};
 ghost use Rattle.krml_trace.specs.Outside.{Rose};
-ghost use Rattle.krml_ast.specs.declared.tree.SourceFile.{SourceFile};
+ghost use Rattle.krml_syntax.specs.declared.tree.SourceFile.{SourceFile};
 ghost use Rattle.krml_cli.specs.declared.refusal.FileRefusal.{FileRefusal};
 ghost use Rattle.krml_cli.specs.declared.stop.Stop.{Stop};
 ghost use Rattle.krml_cli.specs.declared.stop.Stop.TheVariants as stop;

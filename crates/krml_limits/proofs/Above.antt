@@ -3,9 +3,9 @@ use Rattle.std.proofs.Common.{◌≡◌, ◌⊎◌, inl, inr, ℕ, ◌+◌, ◌<
 use Rattle.std.specs.List.{flat_map}
 use Rattle.std.proofs.lemmas.List.{drop_more}
 use Rattle.krml_forms.specs.declared.form.Form.{Form}
-use Rattle.krml_ast.specs.declared.limit.LimitKind.{LimitKind}
-use Rattle.krml_ast.specs.declared.tree.Def.{Def}
-use Rattle.krml_ast.specs.Limits.{first_above, counts_in, counts_each}
+use Rattle.krml_syntax.specs.declared.limit.LimitKind.{LimitKind}
+use Rattle.krml_syntax.specs.declared.tree.Def.{Def}
+use Rattle.krml_syntax.specs.Limits.{first_above, counts_in, counts_each}
 
 pub above_here : (limit : ℕ) (ns ms : List ℕ) (n : ℕ) → first_above limit ns ≡ Some n → first_above limit (ns ++ ms) ≡ Some n
 above_here limit (k ∷ ns) ms n e = go (nat_lt limit k) (above_here limit ns ms n) e

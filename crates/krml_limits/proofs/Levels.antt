@@ -4,7 +4,7 @@ use Rattle.std.specs.List.{flat_map}
 use Rattle.krml_forms.specs.declared.form.Form.{Form, out-Form, roll-out-Form}
 use Rattle.krml_forms.specs.declared.form.Form.TheVariants.{Atom, List as Node, outs-Atom, outs-List}
 use Rattle.krml_forms.specs.declared.form.Form.TheFolds.{para-roll-Form, map-Form, fold_out-Form}
-use Rattle.krml_ast.specs.Limits.{level_word_lengths, word_lengths, own_length, level_alloc_lengths, alloc_lengths}
+use Rattle.krml_syntax.specs.Limits.{level_word_lengths, word_lengths, own_length, level_alloc_lengths, alloc_lengths}
 
 -- ---- words
 

@@ -3,10 +3,10 @@ use Rattle.std.proofs.Common.{◌≡◌, ℕ, ◌≤◌, Bool, true, false, cond
 use Rattle.std.specs.List.{AllByRecursion}
 use Rattle.std.proofs.lemmas.Bool.Decides.{nat_tests}
 use Rattle.krml_forms.specs.declared.form.Form.{Form}
-use Rattle.krml_ast.specs.declared.limit.LimitKind.{LimitKind}
-use Rattle.krml_ast.specs.declared.limit.LimitKind.TheVariants as k
-use Rattle.krml_ast.specs.declared.tree.Def.{Def}
-use Rattle.krml_ast.specs.Limits.{limit_of, kinds, counts, first_above, excess, excess_or, first_excess_of, first_excess}
+use Rattle.krml_syntax.specs.declared.limit.LimitKind.{LimitKind}
+use Rattle.krml_syntax.specs.declared.limit.LimitKind.TheVariants as k
+use Rattle.krml_syntax.specs.declared.tree.Def.{Def}
+use Rattle.krml_syntax.specs.Limits.{limit_of, kinds, counts, first_above, excess, excess_or, first_excess_of, first_excess}
 use Rattle.krml_limits.specs.Within.{IsWithin}
 
 -- ---- counts of a kind

@@ -1,11 +1,11 @@
 ghost use Rattle.std.specs.Prelude.{◌≡◌};
 ghost use Rattle.std.specs.List.{flat_map};
-ghost use Rattle.krml_ast.specs.Limits.{is_alloc_in, first_above, own_length, alloc_lengths};
+ghost use Rattle.krml_syntax.specs.Limits.{is_alloc_in, first_above, own_length, alloc_lengths};
 ghost use Rattle.krml_forms.specs.declared.form.Form.{out-Form};
 
 use crate::limit::above;
-use krml_ast::number_at;
 use krml_forms::Form;
+use krml_syntax::number_at;
 
 fn is_alloc(form: &Form) -> bool
     ensures { result ≡ is_alloc_in (out-Form form.now) }

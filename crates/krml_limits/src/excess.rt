@@ -1,4 +1,4 @@
-use krml_ast::LimitKind;
+use krml_syntax::LimitKind;
 
 /// A limit that a file exceeds: what it bounds, and how much of that there is.
 #[derive(Clone, Copy, Debug, PartialEq, Eq)]

@@ -1,5 +1,5 @@
 ghost use Rattle.std.specs.Prelude.{◌≡◌, ◌≤◌, ◌^◌, IfOk, OnErr, option_map};
-ghost use Rattle.krml_ast.specs.Limits.{limit_of, first_above, counts_in, counts_each, excess, first_excess_of, first_excess};
+ghost use Rattle.krml_syntax.specs.Limits.{limit_of, first_above, counts_in, counts_each, excess, first_excess_of, first_excess};
 ghost use Rattle.krml_forms.specs.Levels.{form_count};
 ghost use Rattle.krml_limits.specs.Excess.{pair};
 ghost use Rattle.krml_limits.specs.Uncounted.{HasUncounted};
@@ -8,8 +8,8 @@ use crate::elements::long_alloc;
 use crate::excess::Excess;
 use crate::limit::{above, limit_of};
 use crate::words::long_word;
-use krml_ast::{Def, LimitKind};
 use krml_forms::{Form, form_count};
+use krml_syntax::{Def, LimitKind};
 use krml_trace::NoMemory;
 
 /// The kinds in the order in which they are answered.

@@ -1,7 +1,7 @@
 ghost use Rattle.std.specs.Prelude.{◌≡◌, [], ◌∷◌};
-ghost use Rattle.krml_ast.specs.Limits.{limit_of, first_above};
+ghost use Rattle.krml_syntax.specs.Limits.{limit_of, first_above};
 
-use krml_ast::LimitKind;
+use krml_syntax::LimitKind;
 
 /// How much of a kind there may be.
 pub fn limit_of(kind: LimitKind) -> u64

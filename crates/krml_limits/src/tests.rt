@@ -1,6 +1,6 @@
 use crate::{Excess, first_excess};
-use krml_ast::{Def, Expr, LimitKind, Ty};
 use krml_forms::Form;
+use krml_syntax::{Def, Expr, LimitKind, Ty};
 use krml_trace::{Name, NoMemory, Seq};
 use std::alloc::Global;
 

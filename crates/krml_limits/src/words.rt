@@ -1,6 +1,6 @@
 ghost use Rattle.std.specs.Prelude.{◌≡◌};
 ghost use Rattle.std.specs.List.{flat_map};
-ghost use Rattle.krml_ast.specs.Limits.{first_above, word_length, word_lengths};
+ghost use Rattle.krml_syntax.specs.Limits.{first_above, word_length, word_lengths};
 
 use crate::limit::above;
 use krml_forms::Form;

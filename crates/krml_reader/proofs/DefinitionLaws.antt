@@ -4,14 +4,14 @@ use Rattle.krml_forms.specs.declared.form.Form.{Form, out-Form}
 use Rattle.krml_forms.specs.declared.form.Form.TheVariants.{Atom, List as Node, outs-List}
 use Rattle.krml_forms.specs.Levels.{Within, AllWithin}
 use Rattle.krml_forms.proofs.Layer.{list_inside}
-use Rattle.krml_ast.specs.declared.tree.IntTy.{IntTy}
-use Rattle.krml_ast.specs.declared.tree.Field.{Field}
-use Rattle.krml_ast.specs.declared.tree.Con.{Con}
-use Rattle.krml_ast.specs.declared.tree.Def.{Def}
-use Rattle.krml_ast.specs.declared.tree.Def.TheVariants as d
-use Rattle.krml_ast.specs.Name.{IsName}
-use Rattle.krml_ast.specs.Spelling.{int_word, Each, SpellsVar, SpellsNumber, SpellsField, SpellsCon, SpellsDef}
-use Rattle.krml_ast.proofs.Only.{Only, only_none, only_some, only_then, only_more}
+use Rattle.krml_syntax.specs.declared.tree.IntTy.{IntTy}
+use Rattle.krml_syntax.specs.declared.tree.Field.{Field}
+use Rattle.krml_syntax.specs.declared.tree.Con.{Con}
+use Rattle.krml_syntax.specs.declared.tree.Def.{Def}
+use Rattle.krml_syntax.specs.declared.tree.Def.TheVariants as d
+use Rattle.krml_syntax.specs.Name.{IsName}
+use Rattle.krml_syntax.specs.Spelling.{int_word, Each, SpellsVar, SpellsNumber, SpellsField, SpellsCon, SpellsDef}
+use Rattle.krml_syntax.proofs.Only.{Only, only_none, only_some, only_then, only_more}
 use Rattle.krml_reader.specs.declared.keyword.Keyword.{Keyword}
 use Rattle.krml_reader.specs.declared.keyword.Keyword.TheVariants as k
 use Rattle.krml_reader.specs.Gives.{each_of, list_in, below}

@@ -5,15 +5,15 @@ use Rattle.krml_forms.specs.declared.form.Form.TheOpen.{Form-F}
 use Rattle.krml_forms.specs.declared.form.Form.TheVariants.{Atom, List as Node, outs-Atom, outs-List}
 use Rattle.krml_forms.specs.Levels.{Within, AllWithin}
 use Rattle.krml_forms.proofs.Layer.{list_inside}
-use Rattle.krml_ast.specs.declared.tree.IntTy.{IntTy}
-use Rattle.krml_ast.specs.declared.tree.Ty.{Ty}
-use Rattle.krml_ast.specs.declared.tree.Arm.{Arm, roll-Arm}
-use Rattle.krml_ast.specs.declared.tree.Item.{Item}
-use Rattle.krml_ast.specs.declared.tree.Item.TheVariants as item
-use Rattle.krml_ast.specs.declared.tree.Expr.{Expr}
-use Rattle.krml_ast.specs.declared.tree.Expr.TheVariants as e
-use Rattle.krml_ast.specs.Name.{is_name, is_reserved, IsName}
-use Rattle.krml_ast.specs.Spelling.{int_word, bool_word, Spells, SpellsAll, SpellsArm, SpellsArms, SpellsItem, SpellsItems}
+use Rattle.krml_syntax.specs.declared.tree.IntTy.{IntTy}
+use Rattle.krml_syntax.specs.declared.tree.Ty.{Ty}
+use Rattle.krml_syntax.specs.declared.tree.Arm.{Arm, roll-Arm}
+use Rattle.krml_syntax.specs.declared.tree.Item.{Item}
+use Rattle.krml_syntax.specs.declared.tree.Item.TheVariants as item
+use Rattle.krml_syntax.specs.declared.tree.Expr.{Expr}
+use Rattle.krml_syntax.specs.declared.tree.Expr.TheVariants as e
+use Rattle.krml_syntax.specs.Name.{is_name, is_reserved, IsName}
+use Rattle.krml_syntax.specs.Spelling.{int_word, bool_word, Spells, SpellsAll, SpellsArm, SpellsArms, SpellsItem, SpellsItems}
 use Rattle.krml_reader.specs.declared.keyword.Keyword.{Keyword}
 use Rattle.krml_reader.specs.declared.keyword.Keyword.TheVariants as k
 use Rattle.krml_reader.specs.Gives.{each_after, each_of, list_in}

@@ -4,17 +4,17 @@ use Rattle.krml_forms.specs.declared.form.Form.{Form, out-Form}
 use Rattle.krml_forms.specs.declared.form.Form.TheOpen.{Form-F}
 use Rattle.krml_forms.specs.declared.form.Form.TheVariants.{Atom, List as Node}
 use Rattle.krml_forms.proofs.Layer.{is_atom, is_list}
-use Rattle.krml_ast.specs.declared.tree.IntTy.{IntTy}
-use Rattle.krml_ast.specs.declared.tree.Ty.{Ty}
-use Rattle.krml_ast.specs.declared.tree.Arm.{Arm, roll-Arm}
-use Rattle.krml_ast.specs.declared.tree.Item.{Item}
-use Rattle.krml_ast.specs.declared.tree.Item.TheVariants as item
-use Rattle.krml_ast.specs.declared.tree.Expr.{Expr}
-use Rattle.krml_ast.specs.declared.tree.Expr.TheVariants as e
-use Rattle.krml_ast.specs.Name.{IsName}
-use Rattle.krml_ast.specs.Read.{◌>>=◌}
-use Rattle.krml_ast.specs.Spelling.{int_word, Each, SpellsTys, Spells, SpellsAll, SpellsArm, SpellsArms, SpellsItem, SpellsItems}
-use Rattle.krml_ast.proofs.Only.{Only, only_none, only_some, only_then, only_more}
+use Rattle.krml_syntax.specs.declared.tree.IntTy.{IntTy}
+use Rattle.krml_syntax.specs.declared.tree.Ty.{Ty}
+use Rattle.krml_syntax.specs.declared.tree.Arm.{Arm, roll-Arm}
+use Rattle.krml_syntax.specs.declared.tree.Item.{Item}
+use Rattle.krml_syntax.specs.declared.tree.Item.TheVariants as item
+use Rattle.krml_syntax.specs.declared.tree.Expr.{Expr}
+use Rattle.krml_syntax.specs.declared.tree.Expr.TheVariants as e
+use Rattle.krml_syntax.specs.Name.{IsName}
+use Rattle.krml_syntax.specs.Read.{◌>>=◌}
+use Rattle.krml_syntax.specs.Spelling.{int_word, Each, SpellsTys, Spells, SpellsAll, SpellsArm, SpellsArms, SpellsItem, SpellsItems}
+use Rattle.krml_syntax.proofs.Only.{Only, only_none, only_some, only_then, only_more}
 use Rattle.krml_reader.specs.declared.keyword.Keyword.{Keyword}
 use Rattle.krml_reader.specs.declared.keyword.Keyword.TheVariants as k
 use Rattle.krml_reader.specs.Gives.{each_of, list_in}

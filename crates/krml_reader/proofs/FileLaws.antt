@@ -7,12 +7,12 @@ use Rattle.krml_forms.specs.declared.read.Reading.{Reading}
 use Rattle.krml_forms.specs.declared.read.Reading.TheVariants.{Forms, Syntax as FaultAt, Nesting as DeepAt}
 use Rattle.krml_forms.specs.Levels.{Within, AllWithin}
 use Rattle.krml_forms.specs.Reading.{HasReading}
-use Rattle.krml_ast.specs.declared.limit.LimitKind.{LimitKind}
-use Rattle.krml_ast.specs.declared.tree.Def.{Def}
-use Rattle.krml_ast.specs.declared.tree.SourceFile.{SourceFile}
-use Rattle.krml_ast.specs.Spelling.{Each, SpellsDef, SpellsDefs}
-use Rattle.krml_ast.specs.Limits.{first_excess}
-use Rattle.krml_ast.specs.File.{SpellsFile}
+use Rattle.krml_syntax.specs.declared.limit.LimitKind.{LimitKind}
+use Rattle.krml_syntax.specs.declared.tree.Def.{Def}
+use Rattle.krml_syntax.specs.declared.tree.SourceFile.{SourceFile}
+use Rattle.krml_syntax.specs.Spelling.{Each, SpellsDef, SpellsDefs}
+use Rattle.krml_syntax.specs.Limits.{first_excess}
+use Rattle.krml_syntax.specs.File.{SpellsFile}
 use Rattle.krml_writer.specs.Written.{text_of}
 use Rattle.krml_reader.specs.declared.refusal.ReadRefusal.{ReadRefusal}
 use Rattle.krml_reader.specs.declared.refusal.ReadRefusal.TheVariants.{TooLarge, Syntax, Nesting, Shape, Limit, NoMemory}

@@ -8,10 +8,10 @@ use Rattle.krml_forms.specs.declared.form.Form.{Form, out-Form}
 use Rattle.krml_forms.specs.declared.form.Form.TheOpen.{Form-F}
 use Rattle.krml_forms.specs.declared.form.Form.TheVariants.{Atom, outs-Atom}
 use Rattle.krml_forms.proofs.Layer.{is_atom}
-use Rattle.krml_ast.specs.declared.tree.BinOp.{BinOp}
-use Rattle.krml_ast.specs.declared.tree.BinOp.TheVariants as binop
-use Rattle.krml_ast.specs.declared.tree.CmpOp.{CmpOp}
-use Rattle.krml_ast.specs.declared.tree.CmpOp.TheVariants as cmpop
+use Rattle.krml_syntax.specs.declared.tree.BinOp.{BinOp}
+use Rattle.krml_syntax.specs.declared.tree.BinOp.TheVariants as binop
+use Rattle.krml_syntax.specs.declared.tree.CmpOp.{CmpOp}
+use Rattle.krml_syntax.specs.declared.tree.CmpOp.TheVariants as cmpop
 use Rattle.krml_reader.specs.declared.keyword.Keyword.{Keyword}
 use Rattle.krml_reader.specs.declared.keyword.Keyword.TheVariants as k
 use Rattle.krml_reader.specs.Keyword.{spelling, keywords, public, secret, first_of_those, keyword_of, keyword_in, keyword_at}

@@ -2,7 +2,7 @@
 use Rattle.std.proofs.Common.{◌≡◌, ℕ, zero, suc, ◌<◌, List, [], ◌∷◌, ◌++◌, length, take, get_or, Some, None, refl, sym, ap, arith}
 use Rattle.krml_forms.specs.declared.form.Form.{Form}
 use Rattle.krml_reader.specs.Expression.{before_last, split_last}
-use Rattle.krml_ast.proofs.Only.{Only, only_none, only_some}
+use Rattle.krml_syntax.proofs.Only.{Only, only_none, only_some}
 
 pub split_last_none : (fs : List Form) → length fs < 1 → split_last fs ≡ None
 unfolding split_last

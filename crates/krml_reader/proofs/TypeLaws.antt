@@ -11,11 +11,11 @@ use Rattle.krml_forms.specs.declared.form.Form.TheOpen.{Form-F}
 use Rattle.krml_forms.specs.declared.form.Form.TheVariants.{Atom, List as Node, outs-Atom, outs-List}
 use Rattle.krml_forms.specs.Levels.{Within, AllWithin}
 use Rattle.krml_forms.proofs.Layer.{is_atom, is_list, list_inside}
-use Rattle.krml_ast.specs.declared.tree.Ty.{Ty}
-use Rattle.krml_ast.specs.declared.tree.Ty.TheVariants as t
-use Rattle.krml_ast.specs.Name.{is_name, is_reserved, IsName}
-use Rattle.krml_ast.specs.Spelling.{int_word, SpellsTy, SpellsTys, Each}
-use Rattle.krml_ast.proofs.Only.{Only, only_none, only_some, only_then, only_more}
+use Rattle.krml_syntax.specs.declared.tree.Ty.{Ty}
+use Rattle.krml_syntax.specs.declared.tree.Ty.TheVariants as t
+use Rattle.krml_syntax.specs.Name.{is_name, is_reserved, IsName}
+use Rattle.krml_syntax.specs.Spelling.{int_word, SpellsTy, SpellsTys, Each}
+use Rattle.krml_syntax.proofs.Only.{Only, only_none, only_some, only_then, only_more}
 use Rattle.krml_reader.specs.declared.keyword.Keyword.{Keyword}
 use Rattle.krml_reader.specs.declared.keyword.Keyword.TheVariants as k
 use Rattle.krml_reader.specs.Gives.{each_after, each_of, list_in, below}

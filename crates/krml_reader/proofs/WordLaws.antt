@@ -8,12 +8,12 @@ use Rattle.krml_forms.specs.declared.form.Form.{Form, out-Form}
 use Rattle.krml_forms.specs.declared.form.Form.TheOpen.{Form-F}
 use Rattle.krml_forms.specs.declared.form.Form.TheVariants.{Atom, outs-Atom}
 use Rattle.krml_forms.proofs.Layer.{is_atom}
-use Rattle.krml_ast.specs.declared.tree.IntTy.{IntTy}
-use Rattle.krml_ast.specs.Name.{is_name, IsName}
-use Rattle.krml_ast.specs.Number.{number_at}
-use Rattle.krml_ast.specs.Spelling.{int_word, SpellsVar, SpellsNumber, SpellsLength}
-use Rattle.krml_ast.proofs.Numbers.{number_at_only, number_at_again}
-use Rattle.krml_ast.proofs.Only.{Only, only_none, only_some, only_then, only_if, only_unless, only_more}
+use Rattle.krml_syntax.specs.declared.tree.IntTy.{IntTy}
+use Rattle.krml_syntax.specs.Name.{is_name, IsName}
+use Rattle.krml_syntax.specs.Number.{number_at}
+use Rattle.krml_syntax.specs.Spelling.{int_word, SpellsVar, SpellsNumber, SpellsLength}
+use Rattle.krml_syntax.proofs.Numbers.{number_at_only, number_at_again}
+use Rattle.krml_syntax.proofs.Only.{Only, only_none, only_some, only_then, only_if, only_unless, only_more}
 use Rattle.krml_reader.specs.declared.keyword.Keyword.{Keyword}
 use Rattle.krml_reader.specs.declared.keyword.Keyword.TheVariants as k
 use Rattle.krml_reader.specs.Keyword.{keyword_at}

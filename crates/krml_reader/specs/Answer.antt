@@ -1,10 +1,10 @@
 -- What forms are read as: a file, or the refusal.
 use Rattle.std.specs.Prelude.{◌≡◌, ℕ, List, [], ◌∷◌, ◌++◌, length, Option, Some, None, Result, Ok, Err}
 use Rattle.krml_forms.specs.declared.form.Form.{Form}
-use Rattle.krml_ast.specs.declared.limit.LimitKind.{LimitKind}
-use Rattle.krml_ast.specs.declared.tree.Def.{Def}
-use Rattle.krml_ast.specs.declared.tree.SourceFile.{SourceFile}
-use Rattle.krml_ast.specs.Limits.{first_excess}
+use Rattle.krml_syntax.specs.declared.limit.LimitKind.{LimitKind}
+use Rattle.krml_syntax.specs.declared.tree.Def.{Def}
+use Rattle.krml_syntax.specs.declared.tree.SourceFile.{SourceFile}
+use Rattle.krml_syntax.specs.Limits.{first_excess}
 use Rattle.krml_reader.specs.declared.refusal.ReadRefusal.{ReadRefusal}
 use Rattle.krml_reader.specs.declared.refusal.ReadRefusal.TheVariants.{Shape, Limit, NoMemory}
 use Rattle.krml_reader.specs.Definition.{def_at}

@@ -1,11 +1,11 @@
 -- What a form is read as: a definition.
 use Rattle.std.specs.Prelude.{ℕ, List, [], ◌∷◌, Option, Some, None}
 use Rattle.krml_forms.specs.declared.form.Form.{Form, out-Form}
-use Rattle.krml_ast.specs.declared.tree.Field.{Field}
-use Rattle.krml_ast.specs.declared.tree.Con.{Con}
-use Rattle.krml_ast.specs.declared.tree.Def.{Def}
-use Rattle.krml_ast.specs.declared.tree.Def.TheVariants as d
-use Rattle.krml_ast.specs.Read.{◌>>=◌}
+use Rattle.krml_syntax.specs.declared.tree.Field.{Field}
+use Rattle.krml_syntax.specs.declared.tree.Con.{Con}
+use Rattle.krml_syntax.specs.declared.tree.Def.{Def}
+use Rattle.krml_syntax.specs.declared.tree.Def.TheVariants as d
+use Rattle.krml_syntax.specs.Read.{◌>>=◌}
 use Rattle.krml_reader.specs.declared.keyword.Keyword.{Keyword}
 use Rattle.krml_reader.specs.declared.keyword.Keyword.TheVariants as k
 use Rattle.krml_reader.specs.Gives.{each_of, list_in, below}

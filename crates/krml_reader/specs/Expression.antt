@@ -2,14 +2,14 @@
 use Rattle.std.specs.Prelude.{ℕ, zero, suc, Bool, true, false, if◌then◌else◌, List, [], ◌∷◌, Option, Some, None}
 use Rattle.krml_forms.specs.declared.form.Form.{Form, out-Form}
 use Rattle.krml_forms.specs.declared.form.Form.TheOpen.{Form-F}
-use Rattle.krml_ast.specs.declared.tree.IntTy.{IntTy}
-use Rattle.krml_ast.specs.declared.tree.Ty.{Ty}
-use Rattle.krml_ast.specs.declared.tree.Arm.{Arm, roll-Arm}
-use Rattle.krml_ast.specs.declared.tree.Item.{Item}
-use Rattle.krml_ast.specs.declared.tree.Item.TheVariants as item
-use Rattle.krml_ast.specs.declared.tree.Expr.{Expr}
-use Rattle.krml_ast.specs.declared.tree.Expr.TheVariants as e
-use Rattle.krml_ast.specs.Read.{◌>>=◌}
+use Rattle.krml_syntax.specs.declared.tree.IntTy.{IntTy}
+use Rattle.krml_syntax.specs.declared.tree.Ty.{Ty}
+use Rattle.krml_syntax.specs.declared.tree.Arm.{Arm, roll-Arm}
+use Rattle.krml_syntax.specs.declared.tree.Item.{Item}
+use Rattle.krml_syntax.specs.declared.tree.Item.TheVariants as item
+use Rattle.krml_syntax.specs.declared.tree.Expr.{Expr}
+use Rattle.krml_syntax.specs.declared.tree.Expr.TheVariants as e
+use Rattle.krml_syntax.specs.Read.{◌>>=◌}
 use Rattle.krml_reader.specs.declared.keyword.Keyword.{Keyword}
 use Rattle.krml_reader.specs.declared.keyword.Keyword.TheVariants as k
 use Rattle.krml_reader.specs.Gives.{each_of, list_in}

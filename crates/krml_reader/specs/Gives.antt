@@ -2,7 +2,7 @@
 use Rattle.std.specs.Prelude.{◌≡◌, ℕ, zero, suc, List, [], ◌∷◌, ◌++◌, Option, Some, None, Result, Ok, Err}
 use Rattle.krml_forms.specs.declared.form.Form.{Form}
 use Rattle.krml_forms.specs.declared.form.Form.TheOpen.{Form-F}
-use Rattle.krml_ast.specs.Read.{◌>>=◌}
+use Rattle.krml_syntax.specs.Read.{◌>>=◌}
 use Rattle.krml_reader.specs.declared.no_tree.NoTree.{NoTree}
 use Rattle.krml_reader.specs.declared.no_tree.NoTree.TheVariants.{Unspelled, NoMemory}
 

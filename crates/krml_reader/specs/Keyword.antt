@@ -5,9 +5,9 @@ use Rattle.krml_trace.specs.declared.width.Width.{Width}
 use Rattle.krml_trace.specs.declared.width.Width.TheVariants.{W8, W32, W64}
 use Rattle.krml_forms.specs.declared.form.Form.{Form, out-Form}
 use Rattle.krml_forms.specs.declared.form.Form.TheOpen.{Form-F}
-use Rattle.krml_ast.specs.declared.tree.BinOp.TheVariants as binop
-use Rattle.krml_ast.specs.declared.tree.CmpOp.TheVariants as cmpop
-use Rattle.krml_ast.specs.Spelling.{int_word, bool_word, bin_word, shift_word, cmp_word}
+use Rattle.krml_syntax.specs.declared.tree.BinOp.TheVariants as binop
+use Rattle.krml_syntax.specs.declared.tree.CmpOp.TheVariants as cmpop
+use Rattle.krml_syntax.specs.Spelling.{int_word, bool_word, bin_word, shift_word, cmp_word}
 use Rattle.krml_reader.specs.declared.keyword.Keyword.{Keyword}
 use Rattle.krml_reader.specs.declared.keyword.Keyword.TheVariants as k
 

@@ -4,12 +4,12 @@ use Rattle.krml_forms.specs.declared.form.Form.{Form}
 use Rattle.krml_forms.specs.Text.{HasForms}
 use Rattle.krml_forms.specs.Levels.{AllWithin}
 use Rattle.krml_forms.specs.Faults.{IsFaultAt, IsDeepAt, HasNone, IsFirst}
-use Rattle.krml_ast.specs.declared.limit.LimitKind.{LimitKind}
-use Rattle.krml_ast.specs.declared.tree.Def.{Def}
-use Rattle.krml_ast.specs.declared.tree.SourceFile.{SourceFile}
-use Rattle.krml_ast.specs.Spelling.{SpellsDef, SpellsDefs}
-use Rattle.krml_ast.specs.Limits.{first_excess}
-use Rattle.krml_ast.specs.File.{SpellsFile}
+use Rattle.krml_syntax.specs.declared.limit.LimitKind.{LimitKind}
+use Rattle.krml_syntax.specs.declared.tree.Def.{Def}
+use Rattle.krml_syntax.specs.declared.tree.SourceFile.{SourceFile}
+use Rattle.krml_syntax.specs.Spelling.{SpellsDef, SpellsDefs}
+use Rattle.krml_syntax.specs.Limits.{first_excess}
+use Rattle.krml_syntax.specs.File.{SpellsFile}
 use Rattle.krml_writer.specs.Written.{text_of}
 use Rattle.krml_reader.specs.declared.refusal.ReadRefusal.{ReadRefusal}
 use Rattle.krml_reader.specs.declared.refusal.ReadRefusal.TheVariants.{TooLarge, Syntax, Nesting, Shape, Limit, NoMemory}

@@ -4,10 +4,10 @@ use Rattle.krml_trace.specs.declared.width.Width.{Width}
 use Rattle.krml_trace.specs.Width.{bits}
 use Rattle.krml_forms.specs.declared.form.Form.{Form, out-Form}
 use Rattle.krml_forms.specs.declared.form.Form.TheOpen.{Form-F}
-use Rattle.krml_ast.specs.declared.tree.IntTy.{IntTy}
-use Rattle.krml_ast.specs.Name.{is_name}
-use Rattle.krml_ast.specs.Number.{number_at}
-use Rattle.krml_ast.specs.Read.{◌>>=◌}
+use Rattle.krml_syntax.specs.declared.tree.IntTy.{IntTy}
+use Rattle.krml_syntax.specs.Name.{is_name}
+use Rattle.krml_syntax.specs.Number.{number_at}
+use Rattle.krml_syntax.specs.Read.{◌>>=◌}
 use Rattle.krml_reader.specs.declared.keyword.Keyword.{Keyword}
 use Rattle.krml_reader.specs.declared.keyword.Keyword.TheVariants as k
 use Rattle.krml_reader.specs.Keyword.{keyword_at}

@@ -9,8 +9,8 @@ use crate::name::name_at;
 use crate::no_tree::NoTree;
 use crate::types::{ty_at, tys_of};
 use crate::words::{int_at, number_of_width, var_at};
-use krml_ast::{Con, Def, Field};
 use krml_forms::Form;
+use krml_syntax::{Con, Def, Field};
 use krml_trace::{Name, Seq, Width};
 use std::alloc::Global;
 

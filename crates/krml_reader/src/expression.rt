@@ -8,8 +8,8 @@ use crate::no_tree::NoTree;
 use crate::pattern::pat_at;
 use crate::types::{ty_at, tys_at};
 use crate::words::{int_at, length_at, number_of_width};
-use krml_ast::{Arm, Expr, IntTy, Item, Ty};
 use krml_forms::Form;
+use krml_syntax::{Arm, Expr, IntTy, Item, Ty};
 use krml_trace::{Box, Name, Seq};
 use std::alloc::Global;
 

@@ -1,8 +1,8 @@
 ghost use Rattle.std.specs.Prelude.{◌≡◌};
 ghost use Rattle.krml_reader.specs.Keyword.{spelling, first_of_those, keyword_of, keyword_at};
 
-use krml_ast::{BinOp, CmpOp, IntTy, bin_word, bool_word, cmp_word, int_word, shift_word};
 use krml_forms::Form;
+use krml_syntax::{BinOp, CmpOp, IntTy, bin_word, bool_word, cmp_word, int_word, shift_word};
 use krml_trace::Width;
 
 /// A word of the language.

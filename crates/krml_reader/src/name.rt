@@ -1,7 +1,7 @@
 ghost use Rattle.std.specs.Prelude.{◌≡◌};
 ghost use Rattle.std.specs.List.{list_all};
 ghost use Rattle.krml_trace.specs.Byte.{is_letter, is_name_byte};
-ghost use Rattle.krml_ast.specs.Name.{is_reserved, is_name};
+ghost use Rattle.krml_syntax.specs.Name.{is_reserved, is_name};
 ghost use Rattle.krml_reader.specs.Gives.{Gives};
 ghost use Rattle.krml_reader.specs.Words.{name_of, name_at};
 
@@ -28,7 +28,7 @@ fn are_name_bytes(bytes: &[u8]) -> bool
     bytes.iter().all(|byte| is_name_byte(*byte))
 }
 
-#[tactic(auto, unfolding(krml_ast::specs::Name::is_reserved))]
+#[tactic(auto, unfolding(krml_syntax::specs::Name::is_reserved))]
 fn is_reserved(word: &[u8]) -> bool
     ensures { result ≡ is_reserved word.now }
 {
@@ -50,7 +50,7 @@ fn is_reserved(word: &[u8]) -> bool
     )
 }
 
-#[tactic(auto, unfolding(krml_ast::specs::Name::is_name))]
+#[tactic(auto, unfolding(krml_syntax::specs::Name::is_name))]
 fn is_name(word: &[u8]) -> bool
     ensures { result ≡ is_name word.now }
 {

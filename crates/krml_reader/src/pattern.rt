@@ -6,8 +6,8 @@ use crate::keyword::{Keyword, keyword_at, keyword_of};
 use crate::name::{name_at, name_of};
 use crate::no_tree::NoTree;
 use crate::words::number_of_width;
-use krml_ast::{IntTy, Pat};
 use krml_forms::Form;
+use krml_syntax::{IntTy, Pat};
 use krml_trace::{Name, Seq};
 use std::alloc::Global;
 

@@ -1,10 +1,10 @@
 ghost use Rattle.std.specs.Prelude.{◌≡◌, IfOk, List, ℕ, Result};
 ghost use Rattle.krml_forms.specs.declared.form.Form.{Form};
 ghost use Rattle.krml_forms.specs.Levels.{Within};
-ghost use Rattle.krml_ast.specs.declared.tree.Def.{Def};
-ghost use Rattle.krml_ast.specs.declared.tree.SourceFile.{SourceFile};
-ghost use Rattle.krml_ast.specs.Spelling.{SpellsDef};
-ghost use Rattle.krml_ast.specs.File.{SpellsFile};
+ghost use Rattle.krml_syntax.specs.declared.tree.Def.{Def};
+ghost use Rattle.krml_syntax.specs.declared.tree.SourceFile.{SourceFile};
+ghost use Rattle.krml_syntax.specs.Spelling.{SpellsDef};
+ghost use Rattle.krml_syntax.specs.File.{SpellsFile};
 ghost use Rattle.krml_reader.specs.declared.refusal.ReadRefusal.{ReadRefusal};
 ghost use Rattle.krml_reader.specs.Answer.{Misshapen, Answers, AddsDef, defs_of, limited, file_of};
 ghost use Rattle.krml_reader.specs.Read.{Reads, IsRead, IsRefused};
@@ -12,9 +12,9 @@ ghost use Rattle.krml_reader.specs.Read.{Reads, IsRead, IsRefused};
 use crate::definition::def_at;
 use crate::no_tree::NoTree;
 use crate::refusal::ReadRefusal;
-use krml_ast::{Def, SourceFile};
 use krml_forms::{Form, Reading, one_reading, read_forms};
 use krml_limits::{Excess, first_excess};
+use krml_syntax::{Def, SourceFile};
 use krml_trace::Seq;
 use std::alloc::Global;
 

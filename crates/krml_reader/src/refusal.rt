@@ -1,4 +1,4 @@
-use krml_ast::LimitKind;
+use krml_syntax::LimitKind;
 use krml_trace::NoMemory;
 use thiserror::Error;
 

@@ -1,6 +1,6 @@
 use crate::read::read_file;
 use crate::refusal::ReadRefusal;
-use krml_ast::{Def, LimitKind, SourceFile};
+use krml_syntax::{Def, LimitKind, SourceFile};
 use krml_trace::NoMemory;
 use krml_writer::write_file;
 use std::alloc::Global;

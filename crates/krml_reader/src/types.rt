@@ -5,8 +5,8 @@ ghost use Rattle.krml_reader.specs.Types.{named_of, word_of, variable_of, atom_o
 use crate::keyword::{Keyword, keyword_at, keyword_of};
 use crate::name::{name_at, name_of};
 use crate::no_tree::NoTree;
-use krml_ast::Ty;
 use krml_forms::Form;
+use krml_syntax::Ty;
 use krml_trace::{Box, Seq};
 use std::alloc::Global;
 

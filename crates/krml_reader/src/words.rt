@@ -5,8 +5,8 @@ ghost use Rattle.krml_reader.specs.Words.{var_of, var_at, int_at, number_of_widt
 use crate::keyword::{Keyword, keyword_at};
 use crate::name::name_of;
 use crate::no_tree::NoTree;
-use krml_ast::{IntTy, number_at};
 use krml_forms::Form;
+use krml_syntax::{IntTy, number_at};
 use krml_trace::{Name, Width};
 use std::alloc::Global;
 

@@ -1,6 +1,6 @@
 ghost use Rattle.std.specs.Prelude.{◌≡◌, ℕ, List, Result};
-ghost use Rattle.krml_ast.specs.declared.tree.SourceFile.{SourceFile};
-ghost use Rattle.krml_ast.specs.File.{SpellsFile};
+ghost use Rattle.krml_syntax.specs.declared.tree.SourceFile.{SourceFile};
+ghost use Rattle.krml_syntax.specs.File.{SpellsFile};
 ghost use Rattle.krml_writer.specs.Written.{text_of};
 ghost use Rattle.krml_reader.specs.declared.refusal.ReadRefusal.{ReadRefusal};
 ghost use Rattle.krml_reader.specs.Read.{Reads, read_back};

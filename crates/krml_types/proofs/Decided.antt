@@ -9,15 +9,15 @@ use Rattle.std.proofs.lemmas.Slice.Eq.{bytes_eq-Decides}
 use Rattle.krml_trace.specs.Width.{same_width}
 use Rattle.krml_trace.specs.declared.width.Width.{Width}
 use Rattle.krml_trace.specs.declared.width.Width.TheVariants.{W8, W32, W64}
-use Rattle.krml_ast.specs.declared.tree.IntTy.{IntTy}
-use Rattle.krml_ast.specs.declared.tree.Ty.{Ty, out-Ty, roll-Ty, roll-out-Ty, map-Ty}
-use Rattle.krml_ast.specs.declared.tree.Ty.TheOpen.{Ty-F}
-use Rattle.krml_ast.specs.declared.tree.Ty.TheFolds.{fold-roll-Ty, ind-Ty, para-roll-Ty}
-use Rattle.krml_ast.specs.declared.tree.Ty.TheViews.{out-roll-Ty}
-use Rattle.krml_ast.specs.declared.tree.Ty.TheVariants as t
-use Rattle.krml_ast.specs.declared.tree.Def.{Def}
-use Rattle.krml_types.specs.Names.{Composite, type_named}
-use Rattle.krml_types.specs.IsType.{vars_of, is_unit_in, IsFlat, IsType, AreArguments}
+use Rattle.krml_syntax.specs.declared.tree.IntTy.{IntTy}
+use Rattle.krml_syntax.specs.declared.tree.Ty.{Ty, out-Ty, roll-Ty, roll-out-Ty, map-Ty}
+use Rattle.krml_syntax.specs.declared.tree.Ty.TheOpen.{Ty-F}
+use Rattle.krml_syntax.specs.declared.tree.Ty.TheFolds.{fold-roll-Ty, ind-Ty, para-roll-Ty}
+use Rattle.krml_syntax.specs.declared.tree.Ty.TheViews.{out-roll-Ty}
+use Rattle.krml_syntax.specs.declared.tree.Ty.TheVariants as t
+use Rattle.krml_syntax.specs.declared.tree.Def.{Def}
+use Rattle.krml_ast.specs.Names.{Composite, type_named}
+use Rattle.krml_ast.specs.IsType.{vars_of, is_unit_in, IsFlat, IsType, AreArguments}
 use Rattle.krml_types.specs.Holds.{same_bool, holds_by, holders}
 use Rattle.krml_types.specs.Parts.{is_value}
 use Rattle.krml_types.specs.Types.{same_int, all_same, same_in, ty_same, same_ty, is_flat, is_among, takes, all_serve, is_type_in, is_type_by, are_arguments_by, is_type, are_arguments}

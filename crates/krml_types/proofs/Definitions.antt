@@ -6,20 +6,20 @@ use Rattle.std.specs.Str.{bytes_eq}
 use Rattle.std.proofs.lemmas.Bool.{and_parts, and_from}
 use Rattle.std.proofs.lemmas.Slice.Eq.{bytes_eq-Decides}
 use Rattle.krml_trace.specs.Width.{bits}
-use Rattle.krml_ast.specs.declared.tree.IntTy.{IntTy}
-use Rattle.krml_ast.specs.declared.tree.Ty.{Ty, out-Ty, roll-Ty, roll-out-Ty}
-use Rattle.krml_ast.specs.declared.tree.Ty.TheOpen.{Ty-F}
-use Rattle.krml_ast.specs.declared.tree.Ty.TheVariants as t
-use Rattle.krml_ast.specs.declared.tree.Field.{Field}
-use Rattle.krml_ast.specs.declared.tree.Con.{Con}
-use Rattle.krml_ast.specs.declared.tree.Expr.{Expr}
-use Rattle.krml_ast.specs.declared.tree.Def.{Def}
-use Rattle.krml_ast.specs.declared.tree.Def.TheVariants as d
-use Rattle.krml_types.specs.Names.{Signature, fun_named, type_named}
-use Rattle.krml_types.specs.IsType.{erased, is_unit_in, IsValue, IsFlat, IsType}
-use Rattle.krml_types.specs.Typing.{IsResult, HasType}
-use Rattle.krml_types.specs.WellTyped.{type_name, con_names, table_name, fun_name, entry_name, AreNew, names_of, IsOutside, IsAnswer, WellTyped}
-use Rattle.krml_ast.proofs.Only.{Only}
+use Rattle.krml_syntax.specs.declared.tree.IntTy.{IntTy}
+use Rattle.krml_syntax.specs.declared.tree.Ty.{Ty, out-Ty, roll-Ty, roll-out-Ty}
+use Rattle.krml_syntax.specs.declared.tree.Ty.TheOpen.{Ty-F}
+use Rattle.krml_syntax.specs.declared.tree.Ty.TheVariants as t
+use Rattle.krml_syntax.specs.declared.tree.Field.{Field}
+use Rattle.krml_syntax.specs.declared.tree.Con.{Con}
+use Rattle.krml_syntax.specs.declared.tree.Expr.{Expr}
+use Rattle.krml_syntax.specs.declared.tree.Def.{Def}
+use Rattle.krml_syntax.specs.declared.tree.Def.TheVariants as d
+use Rattle.krml_ast.specs.Names.{Signature, fun_named, type_named}
+use Rattle.krml_ast.specs.IsType.{erased, is_unit_in, IsValue, IsFlat, IsType}
+use Rattle.krml_ast.specs.Typing.{IsResult, HasType}
+use Rattle.krml_ast.specs.WellTyped.{type_name, con_names, table_name, fun_name, entry_name, AreNew, names_of, IsOutside, IsAnswer, WellTyped}
+use Rattle.krml_syntax.proofs.Only.{Only}
 use Rattle.krml_types.specs.declared.kind.NameKind.{NameKind}
 use Rattle.krml_types.specs.declared.kind.NameKind.TheVariants as n
 use Rattle.krml_types.specs.Types.{is_flat, is_among, is_type_by, are_arguments_by}

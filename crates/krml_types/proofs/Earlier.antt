@@ -4,14 +4,14 @@ use Rattle.std.specs.Bool.{Decides}
 use Rattle.std.specs.List.{Contains}
 use Rattle.std.specs.Str.{bytes_eq}
 use Rattle.std.proofs.lemmas.Bool.Decides.{same_from_decides}
-use Rattle.krml_ast.specs.declared.tree.Ty.{Ty, out-Ty}
-use Rattle.krml_ast.specs.declared.tree.Ty.TheOpen.{Ty-F}
-use Rattle.krml_ast.specs.declared.tree.Ty.TheVariants as t
-use Rattle.krml_ast.specs.declared.tree.Field.{Field}
-use Rattle.krml_ast.specs.declared.tree.Def.{Def}
-use Rattle.krml_ast.specs.declared.tree.Def.TheVariants as d
-use Rattle.krml_types.specs.Names.{Composite, Struct, Sum, type_named}
-use Rattle.krml_types.specs.IsType.{HoldsBuffer, IsFlat, IsType, AreArguments}
+use Rattle.krml_syntax.specs.declared.tree.Ty.{Ty, out-Ty}
+use Rattle.krml_syntax.specs.declared.tree.Ty.TheOpen.{Ty-F}
+use Rattle.krml_syntax.specs.declared.tree.Ty.TheVariants as t
+use Rattle.krml_syntax.specs.declared.tree.Field.{Field}
+use Rattle.krml_syntax.specs.declared.tree.Def.{Def}
+use Rattle.krml_syntax.specs.declared.tree.Def.TheVariants as d
+use Rattle.krml_ast.specs.Names.{Composite, Struct, Sum, type_named}
+use Rattle.krml_ast.specs.IsType.{HoldsBuffer, IsFlat, IsType, AreArguments}
 use Rattle.krml_types.specs.Types.{is_flat, is_type_by}
 use Rattle.krml_types.proofs.Decided.{flat_decides, type_by_decides, types_same}
 

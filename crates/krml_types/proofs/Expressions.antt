@@ -3,25 +3,25 @@ use Rattle.std.proofs.Common.{◌≡◌, ℕ, ◌^◌, nat_lt, nat_le, Bool, tru
 use Rattle.std.specs.List.{AllByRecursion}
 use Rattle.std.proofs.lemmas.Bool.{and_parts}
 use Rattle.krml_trace.specs.Width.{bits}
-use Rattle.krml_ast.specs.declared.tree.IntTy.{IntTy}
-use Rattle.krml_ast.specs.declared.tree.Ty.{Ty, out-Ty, roll-Ty, roll-out-Ty}
-use Rattle.krml_ast.specs.declared.tree.Ty.TheOpen.{Ty-F}
-use Rattle.krml_ast.specs.declared.tree.Ty.TheVariants as t
-use Rattle.krml_ast.specs.declared.tree.Pat.{Pat}
-use Rattle.krml_ast.specs.declared.tree.Slot.{Slot}
-use Rattle.krml_ast.specs.declared.tree.Arm.{Arm, roll-Arm}
-use Rattle.krml_ast.specs.declared.tree.Case.{Case, roll-Case}
-use Rattle.krml_ast.specs.declared.tree.Item.{Item, roll-Item}
-use Rattle.krml_ast.specs.declared.tree.Item.TheVariants as item
-use Rattle.krml_ast.specs.declared.tree.Expr.{Expr, roll-Expr, map-Expr}
-use Rattle.krml_ast.specs.declared.tree.Expr.TheOpen.{Expr-F, Arm-F, Item-F, Case-F}
-use Rattle.krml_ast.specs.declared.tree.Expr.TheFolds.{fold_out-Expr, fold_out-Item, fold-roll-Arm, fold-roll-Case, ind-Expr, map-Arm, map-Item, map-Case}
-use Rattle.krml_ast.specs.declared.tree.Expr.TheVariants as e
-use Rattle.krml_ast.specs.declared.tree.Def.{Def}
-use Rattle.krml_types.specs.Names.{table_named}
-use Rattle.krml_types.specs.IsType.{erased, int_ty, u32, is_unit_in}
-use Rattle.krml_types.specs.Typing.{Scope, with_vars, in_loop, in_frame, at, fields_at, IsResult, Matches, HasType, AllHaveType, ArmsHaveType, ItemsLead, CasesHaveType}
-use Rattle.krml_ast.proofs.Only.{Only, only_none, only_some, only_then, only_more}
+use Rattle.krml_syntax.specs.declared.tree.IntTy.{IntTy}
+use Rattle.krml_syntax.specs.declared.tree.Ty.{Ty, out-Ty, roll-Ty, roll-out-Ty}
+use Rattle.krml_syntax.specs.declared.tree.Ty.TheOpen.{Ty-F}
+use Rattle.krml_syntax.specs.declared.tree.Ty.TheVariants as t
+use Rattle.krml_syntax.specs.declared.tree.Pat.{Pat}
+use Rattle.krml_syntax.specs.declared.tree.Slot.{Slot}
+use Rattle.krml_syntax.specs.declared.tree.Arm.{Arm, roll-Arm}
+use Rattle.krml_syntax.specs.declared.tree.Case.{Case, roll-Case}
+use Rattle.krml_syntax.specs.declared.tree.Item.{Item, roll-Item}
+use Rattle.krml_syntax.specs.declared.tree.Item.TheVariants as item
+use Rattle.krml_syntax.specs.declared.tree.Expr.{Expr, roll-Expr, map-Expr}
+use Rattle.krml_syntax.specs.declared.tree.Expr.TheOpen.{Expr-F, Arm-F, Item-F, Case-F}
+use Rattle.krml_syntax.specs.declared.tree.Expr.TheFolds.{fold_out-Expr, fold_out-Item, fold-roll-Arm, fold-roll-Case, ind-Expr, map-Arm, map-Item, map-Case}
+use Rattle.krml_syntax.specs.declared.tree.Expr.TheVariants as e
+use Rattle.krml_syntax.specs.declared.tree.Def.{Def}
+use Rattle.krml_ast.specs.Names.{table_named}
+use Rattle.krml_ast.specs.IsType.{erased, int_ty, u32, is_unit_in}
+use Rattle.krml_ast.specs.Typing.{Scope, with_vars, in_loop, in_frame, at, fields_at, IsResult, Matches, HasType, AllHaveType, ArmsHaveType, ItemsLead, CasesHaveType}
+use Rattle.krml_syntax.proofs.Only.{Only, only_none, only_some, only_then, only_more}
 use Rattle.krml_types.specs.Types.{same_ty, is_flat, is_type}
 use Rattle.krml_types.specs.declared.instance.Instance.{Instance}
 use Rattle.krml_types.specs.Parts.{is_value, are_distinct}

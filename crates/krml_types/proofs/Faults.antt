@@ -3,11 +3,11 @@ use Rattle.std.proofs.Common.{◌≡◌, ℕ, zero, suc, ◌+◌, ◌<◌, ◌�
 use Rattle.std.specs.Bool.{Decides}
 use Rattle.std.specs.List.{AllByRecursion, Contains}
 use Rattle.std.specs.Str.{bytes_eq}
-use Rattle.krml_ast.specs.declared.tree.Field.{Field}
-use Rattle.krml_ast.specs.declared.tree.Def.{Def}
-use Rattle.krml_types.specs.Names.{Struct, Sum, type_named}
-use Rattle.krml_types.specs.IsType.{IsValue, IsType}
-use Rattle.krml_types.specs.WellTyped.{WellTyped, IsWellTyped, AreWellTyped}
+use Rattle.krml_syntax.specs.declared.tree.Field.{Field}
+use Rattle.krml_syntax.specs.declared.tree.Def.{Def}
+use Rattle.krml_ast.specs.Names.{Struct, Sum, type_named}
+use Rattle.krml_ast.specs.IsType.{IsValue, IsType}
+use Rattle.krml_ast.specs.WellTyped.{WellTyped, IsWellTyped, AreWellTyped}
 use Rattle.krml_types.specs.Definitions.{well_typed}
 use Rattle.krml_types.specs.Check.{fault_from, first_fault, IsFirstFault}
 use Rattle.krml_types.proofs.Earlier.{Settled, none_settled, named_last, type_more}

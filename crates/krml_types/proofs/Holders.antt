@@ -4,14 +4,14 @@ use Rattle.std.specs.Bool.{Decides}
 use Rattle.std.specs.List.{Contains}
 use Rattle.std.specs.Str.{bytes_eq}
 use Rattle.std.proofs.lemmas.Bool.{and_parts}
-use Rattle.krml_ast.specs.declared.tree.Ty.{Ty, out-Ty, roll-Ty, roll-out-Ty}
-use Rattle.krml_ast.specs.declared.tree.Ty.TheOpen.{Ty-F}
-use Rattle.krml_ast.specs.declared.tree.Ty.TheVariants as t
-use Rattle.krml_ast.specs.declared.tree.Field.{Field}
-use Rattle.krml_ast.specs.declared.tree.Def.{Def}
-use Rattle.krml_ast.specs.declared.tree.Def.TheVariants as d
-use Rattle.krml_types.specs.Names.{Struct, Sum, type_named}
-use Rattle.krml_types.specs.IsType.{HoldsBuffer}
+use Rattle.krml_syntax.specs.declared.tree.Ty.{Ty, out-Ty, roll-Ty, roll-out-Ty}
+use Rattle.krml_syntax.specs.declared.tree.Ty.TheOpen.{Ty-F}
+use Rattle.krml_syntax.specs.declared.tree.Ty.TheVariants as t
+use Rattle.krml_syntax.specs.declared.tree.Field.{Field}
+use Rattle.krml_syntax.specs.declared.tree.Def.{Def}
+use Rattle.krml_syntax.specs.declared.tree.Def.TheVariants as d
+use Rattle.krml_ast.specs.Names.{Struct, Sum, type_named}
+use Rattle.krml_ast.specs.IsType.{HoldsBuffer}
 use Rattle.krml_types.specs.Holds.{is_set, holds_in, holds_by, any_holds, def_holds, set_more, place_from, at_place, part_in, parts_of, parts_in, or_false, part_holds, any_part, round, rounds, same_bool, same_table, none_set, holders}
 
 -- ---- rounds come to an end

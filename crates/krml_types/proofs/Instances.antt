@@ -3,18 +3,18 @@ use Rattle.std.proofs.Common.{◌≡◌, ℕ, ◌==◌, true, List, map, length,
 use Rattle.std.specs.Bool.{Decides}
 use Rattle.std.proofs.lemmas.Bool.{and_parts}
 use Rattle.std.proofs.lemmas.Bool.Decides.{Decides-eqb}
-use Rattle.krml_ast.specs.declared.tree.Ty.{Ty, out-Ty}
-use Rattle.krml_ast.specs.declared.tree.Ty.TheVariants as t
-use Rattle.krml_ast.specs.declared.tree.Field.{Field}
-use Rattle.krml_ast.specs.declared.tree.Pat.{Pat}
-use Rattle.krml_ast.specs.declared.tree.Pat.TheVariants as p
-use Rattle.krml_ast.specs.declared.tree.Expr.{Expr}
-use Rattle.krml_ast.specs.declared.tree.Expr.TheVariants as e
-use Rattle.krml_ast.specs.declared.tree.Def.{Def}
-use Rattle.krml_types.specs.Names.{Composite, Struct, Sum, Constructor, Signature, type_named, con_named, fun_named, field_named}
-use Rattle.krml_types.specs.IsType.{AreArguments}
-use Rattle.krml_types.specs.Typing.{Vars, Scope, at, fields_at, Matches, MatchAll, HasType, AllHaveType}
-use Rattle.krml_ast.proofs.Only.{Only, only_none, only_some, only_then}
+use Rattle.krml_syntax.specs.declared.tree.Ty.{Ty, out-Ty}
+use Rattle.krml_syntax.specs.declared.tree.Ty.TheVariants as t
+use Rattle.krml_syntax.specs.declared.tree.Field.{Field}
+use Rattle.krml_syntax.specs.declared.tree.Pat.{Pat}
+use Rattle.krml_syntax.specs.declared.tree.Pat.TheVariants as p
+use Rattle.krml_syntax.specs.declared.tree.Expr.{Expr}
+use Rattle.krml_syntax.specs.declared.tree.Expr.TheVariants as e
+use Rattle.krml_syntax.specs.declared.tree.Def.{Def}
+use Rattle.krml_ast.specs.Names.{Composite, Struct, Sum, Constructor, Signature, type_named, con_named, fun_named, field_named}
+use Rattle.krml_ast.specs.IsType.{AreArguments}
+use Rattle.krml_ast.specs.Typing.{Vars, Scope, at, fields_at, Matches, MatchAll, HasType, AllHaveType}
+use Rattle.krml_syntax.proofs.Only.{Only, only_none, only_some, only_then}
 use Rattle.krml_types.specs.Types.{are_arguments}
 use Rattle.krml_types.specs.Parts.{name_of, args_of}
 use Rattle.krml_types.specs.Instances.{struct_of, struct_named, serve, named_at, make_at, con_at, call_at, field_type, make_parts, con_parts, part_type, tag_type}

@@ -1,9 +1,9 @@
 -- What the laws of expressions take of the tests of types.
 use Rattle.std.proofs.Common.{◌≡◌, ℕ, List}
 use Rattle.std.specs.Bool.{Decides}
-use Rattle.krml_ast.specs.declared.tree.Ty.{Ty}
-use Rattle.krml_ast.specs.declared.tree.Def.{Def}
-use Rattle.krml_types.specs.IsType.{IsFlat, IsType, AreArguments}
+use Rattle.krml_syntax.specs.declared.tree.Ty.{Ty}
+use Rattle.krml_syntax.specs.declared.tree.Def.{Def}
+use Rattle.krml_ast.specs.IsType.{IsFlat, IsType, AreArguments}
 use Rattle.krml_types.specs.Types.{same_ty, is_flat, is_type, are_arguments}
 
 -- each test decides what it tests

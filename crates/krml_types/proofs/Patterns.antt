@@ -3,17 +3,17 @@ use Rattle.std.proofs.Common.{◌≡◌, ℕ, ◌^◌, nat_lt, Bool, ◌&&◌, L
 use Rattle.std.specs.Bool.{Decides}
 use Rattle.std.proofs.lemmas.Bool.{and_parts}
 use Rattle.krml_trace.specs.Width.{bits}
-use Rattle.krml_ast.specs.declared.tree.IntTy.{IntTy}
-use Rattle.krml_ast.specs.declared.tree.Ty.{Ty}
-use Rattle.krml_ast.specs.declared.tree.Ty.TheVariants as t
-use Rattle.krml_ast.specs.declared.tree.Pat.{Pat, roll-Pat, map-Pat}
-use Rattle.krml_ast.specs.declared.tree.Pat.TheOpen.{Pat-F}
-use Rattle.krml_ast.specs.declared.tree.Pat.TheFolds.{fold_out-Pat, ind-Pat}
-use Rattle.krml_ast.specs.declared.tree.Pat.TheVariants as p
-use Rattle.krml_ast.specs.declared.tree.Def.{Def}
-use Rattle.krml_types.specs.IsType.{int_ty}
-use Rattle.krml_types.specs.Typing.{Vars, Matches, MatchAll, at, fields_at}
-use Rattle.krml_ast.proofs.Only.{Only, only_none, only_some, only_then, only_more}
+use Rattle.krml_syntax.specs.declared.tree.IntTy.{IntTy}
+use Rattle.krml_syntax.specs.declared.tree.Ty.{Ty}
+use Rattle.krml_syntax.specs.declared.tree.Ty.TheVariants as t
+use Rattle.krml_syntax.specs.declared.tree.Pat.{Pat, roll-Pat, map-Pat}
+use Rattle.krml_syntax.specs.declared.tree.Pat.TheOpen.{Pat-F}
+use Rattle.krml_syntax.specs.declared.tree.Pat.TheFolds.{fold_out-Pat, ind-Pat}
+use Rattle.krml_syntax.specs.declared.tree.Pat.TheVariants as p
+use Rattle.krml_syntax.specs.declared.tree.Def.{Def}
+use Rattle.krml_ast.specs.IsType.{int_ty}
+use Rattle.krml_ast.specs.Typing.{Vars, Matches, MatchAll, at, fields_at}
+use Rattle.krml_syntax.proofs.Only.{Only, only_none, only_some, only_then, only_more}
 use Rattle.krml_types.specs.Types.{same_ty}
 use Rattle.krml_types.specs.Instances.{make_parts, con_parts}
 use Rattle.krml_types.specs.Patterns.{parts_bind, binds}

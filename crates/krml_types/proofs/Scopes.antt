@@ -1,7 +1,7 @@
 -- Scopes that grow and are cut back.
 use Rattle.std.proofs.Common.{◌≡◌, ℕ, ◌-◌, List, ◌++◌, length, take, drop, reverse, sym, ap, ◌∙◌, arith}
 use Rattle.std.proofs.lemmas.List.{take-append-drop, reverse-append, length-reverse, length-drop, length-append, drop_at}
-use Rattle.krml_types.specs.Typing.{Vars, Scope, with_vars}
+use Rattle.krml_ast.specs.Typing.{Vars, Scope, with_vars}
 use Rattle.krml_types.specs.Scopes.{cut, cut_scope}
 
 -- what is kept of a list, the last first

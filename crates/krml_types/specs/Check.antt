@@ -1,7 +1,7 @@
 -- The first definition of a file that is not well typed.
 use Rattle.std.specs.Prelude.{ℕ, ◌+◌, ◌<◌, if◌then◌else◌, List, [], ◌∷◌, take, Option, Some, None, Result, Ok, Err}
-use Rattle.krml_ast.specs.declared.tree.Def.{Def}
-use Rattle.krml_types.specs.WellTyped.{IsWellTyped, AreWellTyped}
+use Rattle.krml_syntax.specs.declared.tree.Def.{Def}
+use Rattle.krml_ast.specs.WellTyped.{IsWellTyped, AreWellTyped}
 use Rattle.krml_types.specs.declared.refusal.TypeRefusal.{TypeRefusal}
 use Rattle.krml_types.specs.declared.refusal.TypeRefusal.TheVariants.{Fault, NoMemory}
 use Rattle.krml_types.specs.Definitions.{well_typed}

@@ -2,18 +2,18 @@
 use Rattle.std.specs.Prelude.{ℕ, ◌^◌, nat_lt, Bool, true, false, not, ◌&&◌, ◌||◌, List, [], ◌∷◌, map, Option, Some, None}
 use Rattle.std.specs.Str.{bytes_eq}
 use Rattle.krml_trace.specs.Width.{bits}
-use Rattle.krml_ast.specs.declared.tree.IntTy.{IntTy}
-use Rattle.krml_ast.specs.declared.tree.Ty.{Ty, out-Ty}
-use Rattle.krml_ast.specs.declared.tree.Ty.TheOpen.{Ty-F}
-use Rattle.krml_ast.specs.declared.tree.Field.{Field}
-use Rattle.krml_ast.specs.declared.tree.Con.{Con}
-use Rattle.krml_ast.specs.declared.tree.Expr.{Expr}
-use Rattle.krml_ast.specs.declared.tree.Def.{Def}
-use Rattle.krml_ast.specs.declared.tree.Def.TheVariants as d
-use Rattle.krml_types.specs.Names.{Signature, fun_named, type_named}
-use Rattle.krml_types.specs.IsType.{erased}
-use Rattle.krml_types.specs.Typing.{Vars, Scope}
-use Rattle.krml_types.specs.WellTyped.{type_name, con_names, table_name, fun_name, entry_name, names_of}
+use Rattle.krml_syntax.specs.declared.tree.IntTy.{IntTy}
+use Rattle.krml_syntax.specs.declared.tree.Ty.{Ty, out-Ty}
+use Rattle.krml_syntax.specs.declared.tree.Ty.TheOpen.{Ty-F}
+use Rattle.krml_syntax.specs.declared.tree.Field.{Field}
+use Rattle.krml_syntax.specs.declared.tree.Con.{Con}
+use Rattle.krml_syntax.specs.declared.tree.Expr.{Expr}
+use Rattle.krml_syntax.specs.declared.tree.Def.{Def}
+use Rattle.krml_syntax.specs.declared.tree.Def.TheVariants as d
+use Rattle.krml_ast.specs.Names.{Signature, fun_named, type_named}
+use Rattle.krml_ast.specs.IsType.{erased}
+use Rattle.krml_ast.specs.Typing.{Vars, Scope}
+use Rattle.krml_ast.specs.WellTyped.{type_name, con_names, table_name, fun_name, entry_name, names_of}
 use Rattle.krml_types.specs.declared.kind.NameKind.{NameKind}
 use Rattle.krml_types.specs.declared.kind.NameKind.TheVariants as k
 use Rattle.krml_types.specs.Types.{same_ty, is_flat, is_among, is_type_by, are_arguments_by}

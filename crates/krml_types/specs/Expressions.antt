@@ -1,22 +1,22 @@
 -- The type of an expression in a scope, computed: one combinator a form.
 use Rattle.std.specs.Prelude.{ℕ, ◌^◌, Bool, ◌&&◌, ◌||◌, nat_lt, nat_le, List, [], ◌∷◌, Option, Some, None}
 use Rattle.krml_trace.specs.Width.{bits}
-use Rattle.krml_ast.specs.declared.tree.IntTy.{IntTy}
-use Rattle.krml_ast.specs.declared.tree.Ty.{Ty, out-Ty}
-use Rattle.krml_ast.specs.declared.tree.Ty.TheVariants as t
-use Rattle.krml_ast.specs.declared.tree.Pat.{Pat}
-use Rattle.krml_ast.specs.declared.tree.Slot.{Slot}
-use Rattle.krml_ast.specs.declared.tree.Def.{Def}
-use Rattle.krml_ast.specs.declared.tree.Arm.{Arm}
-use Rattle.krml_ast.specs.declared.tree.Item.{Item}
-use Rattle.krml_ast.specs.declared.tree.Case.{Case}
-use Rattle.krml_ast.specs.declared.tree.Expr.{Expr, out-Expr, map-Expr}
-use Rattle.krml_ast.specs.declared.tree.Expr.TheOpen.{Expr-F, Arm-F, Item-F, Case-F}
-use Rattle.krml_ast.specs.declared.tree.Expr.TheFolds.{fold-Expr, fold-Arm, fold-Item, fold-Case}
-use Rattle.krml_ast.specs.Read.{◌>>=◌}
-use Rattle.krml_types.specs.Names.{table_named}
-use Rattle.krml_types.specs.IsType.{erased, int_ty, u32, is_unit_in}
-use Rattle.krml_types.specs.Typing.{look, Scope, with_vars, in_loop, in_frame}
+use Rattle.krml_syntax.specs.declared.tree.IntTy.{IntTy}
+use Rattle.krml_syntax.specs.declared.tree.Ty.{Ty, out-Ty}
+use Rattle.krml_syntax.specs.declared.tree.Ty.TheVariants as t
+use Rattle.krml_syntax.specs.declared.tree.Pat.{Pat}
+use Rattle.krml_syntax.specs.declared.tree.Slot.{Slot}
+use Rattle.krml_syntax.specs.declared.tree.Def.{Def}
+use Rattle.krml_syntax.specs.declared.tree.Arm.{Arm}
+use Rattle.krml_syntax.specs.declared.tree.Item.{Item}
+use Rattle.krml_syntax.specs.declared.tree.Case.{Case}
+use Rattle.krml_syntax.specs.declared.tree.Expr.{Expr, out-Expr, map-Expr}
+use Rattle.krml_syntax.specs.declared.tree.Expr.TheOpen.{Expr-F, Arm-F, Item-F, Case-F}
+use Rattle.krml_syntax.specs.declared.tree.Expr.TheFolds.{fold-Expr, fold-Arm, fold-Item, fold-Case}
+use Rattle.krml_syntax.specs.Read.{◌>>=◌}
+use Rattle.krml_ast.specs.Names.{table_named}
+use Rattle.krml_ast.specs.IsType.{erased, int_ty, u32, is_unit_in}
+use Rattle.krml_ast.specs.Typing.{look, Scope, with_vars, in_loop, in_frame}
 use Rattle.krml_types.specs.declared.instance.Instance.{Instance}
 use Rattle.krml_types.specs.Types.{same_ty, is_flat, is_type}
 use Rattle.krml_types.specs.Parts.{demand, is_value, element_of, are_distinct}

@@ -1,11 +1,11 @@
 -- Which structs of a file hold buffers, computed in rounds over a table with a truth value for each definition.
 use Rattle.std.specs.Prelude.{ℕ, zero, suc, ◌+◌, Bool, true, false, not, ◌&&◌, ◌||◌, if◌then◌else◌, List, [], ◌∷◌, map, length, slice_get, Option, Some, None}
 use Rattle.std.specs.Str.{bytes_eq}
-use Rattle.krml_ast.specs.declared.tree.Ty.{Ty, out-Ty}
-use Rattle.krml_ast.specs.declared.tree.Ty.TheOpen.{Ty-F}
-use Rattle.krml_ast.specs.declared.tree.Field.{Field}
-use Rattle.krml_ast.specs.declared.tree.Def.{Def}
-use Rattle.krml_ast.specs.declared.tree.Def.TheVariants as d
+use Rattle.krml_syntax.specs.declared.tree.Ty.{Ty, out-Ty}
+use Rattle.krml_syntax.specs.declared.tree.Ty.TheOpen.{Ty-F}
+use Rattle.krml_syntax.specs.declared.tree.Field.{Field}
+use Rattle.krml_syntax.specs.declared.tree.Def.{Def}
+use Rattle.krml_syntax.specs.declared.tree.Def.TheVariants as d
 use Rattle.krml_types.specs.declared.part.Part.{Part}
 use Rattle.krml_types.specs.declared.part.Part.TheVariants as part
 

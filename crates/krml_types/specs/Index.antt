@@ -1,7 +1,7 @@
 -- What a look-up gives, behind its references.
 use Rattle.std.specs.Prelude.{List, ℕ}
-use Rattle.krml_ast.specs.declared.tree.Field.{Field}
-use Rattle.krml_types.specs.Names.{Constructor, Signature}
+use Rattle.krml_syntax.specs.declared.tree.Field.{Field}
+use Rattle.krml_ast.specs.Names.{Constructor, Signature}
 use Rattle.krml_types.specs.declared.index.StructDef.{StructDef}
 use Rattle.krml_types.specs.declared.index.ConDef.{ConDef}
 use Rattle.krml_types.specs.declared.index.FunDef.{FunDef}

@@ -1,13 +1,13 @@
 -- Structs, constructors and functions at type arguments.
 use Rattle.std.specs.Prelude.{ℕ, ◌==◌, Bool, ◌&&◌, List, map, length, Option, Some, None, slice_get}
-use Rattle.krml_ast.specs.declared.tree.Ty.{Ty, out-Ty}
-use Rattle.krml_ast.specs.declared.tree.Ty.TheVariants as t
-use Rattle.krml_ast.specs.declared.tree.Field.{Field}
-use Rattle.krml_ast.specs.declared.tree.Def.{Def}
-use Rattle.krml_ast.specs.Read.{◌>>=◌}
-use Rattle.krml_types.specs.Names.{Composite, Struct, Sum, type_named, con_named, fun_named, field_named}
-use Rattle.krml_types.specs.IsType.{erased}
-use Rattle.krml_types.specs.Typing.{at, fields_at}
+use Rattle.krml_syntax.specs.declared.tree.Ty.{Ty, out-Ty}
+use Rattle.krml_syntax.specs.declared.tree.Ty.TheVariants as t
+use Rattle.krml_syntax.specs.declared.tree.Field.{Field}
+use Rattle.krml_syntax.specs.declared.tree.Def.{Def}
+use Rattle.krml_syntax.specs.Read.{◌>>=◌}
+use Rattle.krml_ast.specs.Names.{Composite, Struct, Sum, type_named, con_named, fun_named, field_named}
+use Rattle.krml_ast.specs.IsType.{erased}
+use Rattle.krml_ast.specs.Typing.{at, fields_at}
 use Rattle.krml_types.specs.declared.instance.Instance.{Instance}
 use Rattle.krml_types.specs.Parts.{demand, name_of, args_of}
 use Rattle.krml_types.specs.Types.{are_arguments}

@@ -5,11 +5,7 @@ pub mod Gives
 pub mod Holds
 pub mod Index
 pub mod Instances
-pub mod IsType
-pub mod Names
 pub mod Parts
 pub mod Patterns
 pub mod Scopes
 pub mod Types
-pub mod Typing
-pub mod WellTyped

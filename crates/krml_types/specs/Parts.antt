@@ -1,10 +1,10 @@
 -- What types and variables have, where they are of the right kind.
 use Rattle.std.specs.Prelude.{ℕ, Bool, true, not, ◌&&◌, if◌then◌else◌, List, [], ◌∷◌, Option, Some, None}
 use Rattle.std.specs.Str.{bytes_eq}
-use Rattle.krml_ast.specs.declared.tree.Ty.{Ty, out-Ty}
-use Rattle.krml_ast.specs.declared.tree.Ty.TheOpen.{Ty-F}
-use Rattle.krml_types.specs.IsType.{is_unit_in}
-use Rattle.krml_types.specs.Typing.{Vars}
+use Rattle.krml_syntax.specs.declared.tree.Ty.{Ty, out-Ty}
+use Rattle.krml_syntax.specs.declared.tree.Ty.TheOpen.{Ty-F}
+use Rattle.krml_ast.specs.IsType.{is_unit_in}
+use Rattle.krml_ast.specs.Typing.{Vars}
 
 -- something, where a test holds
 abbrev pub demand : Bool → Option (Unit {0})

@@ -1,15 +1,15 @@
 -- The variables that a pattern binds at a place of a type, before those that were bound already.
 use Rattle.std.specs.Prelude.{◌^◌, ◌&&◌, nat_lt, List, [], ◌∷◌, Option, Some, None}
 use Rattle.krml_trace.specs.Width.{bits}
-use Rattle.krml_ast.specs.declared.tree.Ty.{Ty}
-use Rattle.krml_ast.specs.declared.tree.Ty.TheVariants as t
-use Rattle.krml_ast.specs.declared.tree.Pat.{Pat}
-use Rattle.krml_ast.specs.declared.tree.Pat.TheOpen.{Pat-F}
-use Rattle.krml_ast.specs.declared.tree.Pat.TheFolds.{fold-Pat}
-use Rattle.krml_ast.specs.declared.tree.Def.{Def}
-use Rattle.krml_ast.specs.Read.{◌>>=◌}
-use Rattle.krml_types.specs.IsType.{int_ty}
-use Rattle.krml_types.specs.Typing.{Vars}
+use Rattle.krml_syntax.specs.declared.tree.Ty.{Ty}
+use Rattle.krml_syntax.specs.declared.tree.Ty.TheVariants as t
+use Rattle.krml_syntax.specs.declared.tree.Pat.{Pat}
+use Rattle.krml_syntax.specs.declared.tree.Pat.TheOpen.{Pat-F}
+use Rattle.krml_syntax.specs.declared.tree.Pat.TheFolds.{fold-Pat}
+use Rattle.krml_syntax.specs.declared.tree.Def.{Def}
+use Rattle.krml_syntax.specs.Read.{◌>>=◌}
+use Rattle.krml_ast.specs.IsType.{int_ty}
+use Rattle.krml_ast.specs.Typing.{Vars}
 use Rattle.krml_types.specs.Types.{same_ty}
 use Rattle.krml_types.specs.Parts.{demand}
 use Rattle.krml_types.specs.Instances.{make_parts, con_parts}

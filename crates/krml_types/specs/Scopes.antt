@@ -1,10 +1,10 @@
 -- What is done with scopes.
 use Rattle.std.specs.Prelude.{ℕ, ◌-◌, Bool, true, false, List, drop, length, Option, Some, None, slice_get}
-use Rattle.krml_ast.specs.declared.tree.Ty.{Ty}
-use Rattle.krml_ast.specs.declared.tree.Slot.{Slot}
-use Rattle.krml_ast.specs.Read.{◌>>=◌}
-use Rattle.krml_types.specs.IsType.{erased}
-use Rattle.krml_types.specs.Typing.{Vars, Scope}
+use Rattle.krml_syntax.specs.declared.tree.Ty.{Ty}
+use Rattle.krml_syntax.specs.declared.tree.Slot.{Slot}
+use Rattle.krml_syntax.specs.Read.{◌>>=◌}
+use Rattle.krml_ast.specs.IsType.{erased}
+use Rattle.krml_ast.specs.Typing.{Vars, Scope}
 
 -- the oldest n variables
 abbrev pub cut : ℕ → Vars → Vars

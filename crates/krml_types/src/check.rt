@@ -5,7 +5,7 @@ use crate::definition::is_well_typed;
 use crate::index::Index;
 use crate::refusal::TypeRefusal;
 use crate::typed_file::TypedFile;
-use krml_ast::{Def, SourceFile};
+use krml_syntax::{Def, SourceFile};
 use krml_trace::NoMemory;
 use std::alloc::Global;
 

@@ -1,8 +1,8 @@
 //! Which definitions are well typed, each behind the definitions before it.
 
 ghost use Rattle.std.specs.Prelude.{◌≡◌, IfOk};
-ghost use Rattle.krml_ast.specs.declared.tree.Ty.{out-Ty};
-ghost use Rattle.krml_types.specs.Names.{fun_named};
+ghost use Rattle.krml_syntax.specs.declared.tree.Ty.{out-Ty};
+ghost use Rattle.krml_ast.specs.Names.{fun_named};
 ghost use Rattle.krml_types.specs.Expressions.{is_result as is_result_ty};
 ghost use Rattle.krml_types.specs.Definitions.{are_fields, are_cons, all_fit, param_vars, is_body, is_int_in, is_outside_in, are_outside, is_answer_in, is_entry, fun_ok, well_typed};
 
@@ -15,7 +15,7 @@ use crate::scope::Scope;
 use crate::types::{erased, is_unit, same_ty};
 use crate::untyped::Untyped;
 use crate::vars::Vars;
-use krml_ast::{Con, Def, Expr, Field, IntTy, Ty};
+use krml_syntax::{Con, Def, Expr, Field, IntTy, Ty};
 use krml_trace::{Name, NoMemory};
 use std::alloc::{AllocError, Global};
 

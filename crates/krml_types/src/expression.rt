@@ -1,7 +1,7 @@
 ghost use Rattle.std.specs.Prelude.{◌≡◌, OnOk, map, None, Some};
-ghost use Rattle.krml_ast.specs.declared.tree.Ty.{out-Ty};
-ghost use Rattle.krml_ast.specs.declared.tree.Ty.TheVariants.{Buf};
-ghost use Rattle.krml_types.specs.IsType.{int_ty};
+ghost use Rattle.krml_syntax.specs.declared.tree.Ty.{out-Ty};
+ghost use Rattle.krml_syntax.specs.declared.tree.Ty.TheVariants.{Buf};
+ghost use Rattle.krml_ast.specs.IsType.{int_ty};
 ghost use Rattle.krml_types.specs.Gives.{Gives, Leads};
 ghost use Rattle.krml_types.specs.Parts.{element_of};
 ghost use Rattle.krml_types.specs.Types.{same_ty};
@@ -14,7 +14,7 @@ use crate::scope::Scope;
 use crate::types::{erased, int_ty, is_flat, is_type, is_unit, same_ty};
 use crate::untyped::{Untyped, demand};
 use crate::vars::Vars;
-use krml_ast::{Arm, Case, Expr, IntTy, Item, Ty};
+use krml_syntax::{Arm, Case, Expr, IntTy, Item, Ty};
 use krml_trace::{Box, Name, Width};
 use std::alloc::Global;
 

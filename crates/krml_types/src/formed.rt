@@ -1,13 +1,13 @@
 //! Which types are flat, and which are well formed.
 
 ghost use Rattle.std.specs.Prelude.{◌≡◌};
-ghost use Rattle.krml_types.specs.Names.{type_named};
+ghost use Rattle.krml_ast.specs.Names.{type_named};
 ghost use Rattle.krml_types.specs.Parts.{is_value as is_value_ty};
 ghost use Rattle.krml_types.specs.Types.{is_flat, is_among, takes, is_type_by, are_arguments_by, is_type, are_arguments};
 
 use crate::index::Index;
 use crate::types::is_unit;
-use krml_ast::{Def, Ty};
+use krml_syntax::{Def, Ty};
 use krml_trace::Name;
 
 /// Whether a type is one of values.

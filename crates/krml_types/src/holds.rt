@@ -2,11 +2,11 @@
 //! computed in rounds, until one adds none.
 
 ghost use Rattle.std.specs.Prelude.{◌≡◌, IfOk, map};
-ghost use Rattle.krml_ast.specs.declared.tree.Ty.{out-Ty};
+ghost use Rattle.krml_syntax.specs.declared.tree.Ty.{out-Ty};
 ghost use Rattle.krml_types.specs.Holds.{is_set, holds_by, place_from, part_in, parts_of, parts_in, part_holds, any_part, set_more, same_table, none_set, holders};
 
 use crate::part::Part;
-use krml_ast::{Def, Field, Ty};
+use krml_syntax::{Def, Field, Ty};
 use krml_trace::{Name, NoMemory, Seq};
 use std::alloc::Global;
 use std::marker::Model;
@@ -22,9 +22,9 @@ pub struct Holders<'a> {
 impl<'a> Model for Holders<'a> {
     ghost use Rattle.std.specs.Prelude.{List};
     ghost use Rattle.std.specs.Coded.{codes};
-    ghost use Rattle.krml_ast.specs.declared.tree.Def.{Def};
-    ghost use Rattle.krml_ast.specs.contracts.tree.Ty as ty;
-    ghost use Rattle.krml_ast.specs.contracts.tree.Expr as expr;
+    ghost use Rattle.krml_syntax.specs.declared.tree.Def.{Def};
+    ghost use Rattle.krml_syntax.specs.contracts.tree.Ty as ty;
+    ghost use Rattle.krml_syntax.specs.contracts.tree.Expr as expr;
 
     ghost Value = { List Def };
 

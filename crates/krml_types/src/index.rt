@@ -1,11 +1,11 @@
 ghost use Rattle.std.specs.Prelude.{◌≡◌, IfOk, option_map};
-ghost use Rattle.krml_types.specs.Names.{con_in, con_named, table_named, fun_named};
+ghost use Rattle.krml_ast.specs.Names.{con_in, con_named, table_named, fun_named};
 ghost use Rattle.krml_types.specs.Holds.{holds_by, holders};
 ghost use Rattle.krml_types.specs.Index.{struct_def, con_def, fun_def};
 ghost use Rattle.krml_types.specs.Instances.{struct_named};
 
 use crate::holds::Holders;
-use krml_ast::{Con, Def, Field, IntTy, Ty};
+use krml_syntax::{Con, Def, Field, IntTy, Ty};
 use krml_trace::{Name, NoMemory};
 use std::alloc::Global;
 use std::marker::Model;
@@ -42,9 +42,9 @@ pub struct Index<'a> {
 impl<'a> Model for Index<'a> {
     ghost use Rattle.std.specs.Prelude.{List};
     ghost use Rattle.std.specs.Coded.{codes};
-    ghost use Rattle.krml_ast.specs.declared.tree.Def.{Def};
-    ghost use Rattle.krml_ast.specs.contracts.tree.Ty as ty;
-    ghost use Rattle.krml_ast.specs.contracts.tree.Expr as expr;
+    ghost use Rattle.krml_syntax.specs.declared.tree.Def.{Def};
+    ghost use Rattle.krml_syntax.specs.contracts.tree.Ty as ty;
+    ghost use Rattle.krml_syntax.specs.contracts.tree.Expr as expr;
 
     ghost Value = { List Def };
 

@@ -1,8 +1,8 @@
 ghost use Rattle.std.specs.Prelude.{◌≡◌, IfOk, map, option_map};
-ghost use Rattle.krml_ast.specs.declared.tree.Ty.{out-Ty};
-ghost use Rattle.krml_types.specs.Names.{field_named};
-ghost use Rattle.krml_types.specs.IsType.{erased as erased_of};
-ghost use Rattle.krml_types.specs.Typing.{at as type_there, fields_at};
+ghost use Rattle.krml_syntax.specs.declared.tree.Ty.{out-Ty};
+ghost use Rattle.krml_ast.specs.Names.{field_named};
+ghost use Rattle.krml_ast.specs.IsType.{erased as erased_of};
+ghost use Rattle.krml_ast.specs.Typing.{at as type_there, fields_at};
 ghost use Rattle.krml_types.specs.Gives.{Gives};
 ghost use Rattle.krml_types.specs.Parts.{name_of, args_of};
 ghost use Rattle.krml_types.specs.Instances.{serve, named_at, make_at, con_at, call_at, field_type, make_parts, con_parts, part_type, tag_type};
@@ -10,7 +10,7 @@ ghost use Rattle.krml_types.specs.Instances.{serve, named_at, make_at, con_at, c
 use crate::index::Index;
 use crate::types::{are_arguments, at, erased};
 use crate::untyped::{Untyped, demand};
-use krml_ast::{Field, Ty};
+use krml_syntax::{Field, Ty};
 use krml_trace::{Name, NoMemory, Seq};
 use std::alloc::Global;
 

@@ -1,13 +1,13 @@
 //! The names that definitions give: which are new, and which are distinct.
 
 ghost use Rattle.std.specs.Prelude.{◌≡◌};
-ghost use Rattle.krml_types.specs.WellTyped.{names_of};
+ghost use Rattle.krml_ast.specs.WellTyped.{names_of};
 ghost use Rattle.krml_types.specs.declared.kind.NameKind.TheVariants as kinds;
 ghost use Rattle.krml_types.specs.Types.{is_among};
 ghost use Rattle.krml_types.specs.Definitions.{is_fresh, distinct_names, names_in, is_given, is_new, all_new, cons_of};
 
 use crate::kind::NameKind;
-use krml_ast::{Con, Def, Field};
+use krml_syntax::{Con, Def, Field};
 use krml_trace::Name;
 
 fn is_con(cons: &[Con], x: &Name) -> bool

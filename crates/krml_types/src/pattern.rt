@@ -4,10 +4,11 @@ ghost use Rattle.krml_types.specs.Patterns.{binds, parts_bind};
 
 use crate::index::Index;
 use crate::instance::{con_parts, make_parts};
-use crate::types::{clone_ty, int_ty, same_ty};
+use crate::types::{int_ty, same_ty};
 use crate::untyped::{Untyped, demand};
 use crate::vars::Vars;
-use krml_ast::{Pat, Ty};
+use krml_ast::clone_ty;
+use krml_syntax::{Pat, Ty};
 use krml_trace::Name;
 use std::alloc::Global;
 

@@ -1,13 +1,13 @@
 ghost use Rattle.std.specs.Prelude.{◌≡◌, ◌∷◌, [], IfOk, OnOk, length, None};
 ghost use Rattle.std.specs.Option.{option_copied};
-ghost use Rattle.krml_types.specs.Typing.{with_vars, look};
+ghost use Rattle.krml_ast.specs.Typing.{with_vars, look};
 ghost use Rattle.krml_types.specs.Gives.{Gives};
 ghost use Rattle.krml_types.specs.Scopes.{cut_scope, with_frame, is_framed, slot_type};
 
 use crate::types::erased;
 use crate::untyped::Untyped;
 use crate::vars::Vars;
-use krml_ast::{Slot, Ty};
+use krml_syntax::{Slot, Ty};
 use krml_trace::{Name, NoMemory};
 use std::alloc::Global;
 use std::marker::Model;
@@ -23,8 +23,8 @@ pub struct Scope<'a> {
 impl<'a> Model for Scope<'a> {
     ghost use Rattle.std.specs.Option.{option_copied};
     ghost use Rattle.std.specs.Coded.{codes};
-    ghost use Rattle.krml_types.specs.Typing.{Scope as Around};
-    ghost use Rattle.krml_ast.specs.contracts.tree.Ty as ty;
+    ghost use Rattle.krml_ast.specs.Typing.{Scope as Around};
+    ghost use Rattle.krml_syntax.specs.contracts.tree.Ty as ty;
 
     ghost Value = { Around };
 

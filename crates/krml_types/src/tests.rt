@@ -1,7 +1,7 @@
 use crate::check::check_types;
 use crate::refusal::TypeRefusal;
 use crate::typed_file::TypedFile;
-use krml_ast::{Def, Expr, Field, SourceFile, Ty};
+use krml_syntax::{Def, Expr, Field, SourceFile, Ty};
 use krml_trace::{Name, NoMemory, Seq};
 use std::alloc::Global;
 use std::test::Fail;

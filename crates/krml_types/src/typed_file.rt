@@ -1,8 +1,8 @@
 ghost use Rattle.std.specs.Prelude.{◌≡◌, None};
-ghost use Rattle.krml_types.specs.WellTyped.{AreWellTyped};
+ghost use Rattle.krml_ast.specs.WellTyped.{AreWellTyped};
 ghost use Rattle.krml_types.specs.Check.{first_fault};
 
-use krml_ast::SourceFile;
+use krml_syntax::SourceFile;
 use std::marker::Model;
 
 /// A file whose definitions are well typed.
@@ -14,9 +14,9 @@ pub struct TypedFile {
 
 impl Model for TypedFile {
     ghost use Rattle.std.specs.Coded.{codes};
-    ghost use Rattle.krml_ast.specs.declared.tree.SourceFile.{SourceFile as Tree};
-    ghost use Rattle.krml_ast.specs.contracts.tree.Ty as ty;
-    ghost use Rattle.krml_ast.specs.contracts.tree.Expr as expr;
+    ghost use Rattle.krml_syntax.specs.declared.tree.SourceFile.{SourceFile as Tree};
+    ghost use Rattle.krml_syntax.specs.contracts.tree.Ty as ty;
+    ghost use Rattle.krml_syntax.specs.contracts.tree.Expr as expr;
 
     ghost Value = { Tree };
 

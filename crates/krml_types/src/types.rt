@@ -1,53 +1,16 @@
-//! Types: copies, labels erased, type arguments, and whether two are the same.
+//! Types: labels erased, and whether two are the same.
 
 ghost use Rattle.std.specs.Prelude.{◌≡◌, IfOk, map};
-ghost use Rattle.krml_ast.specs.declared.tree.Ty.{out-Ty};
-ghost use Rattle.krml_types.specs.IsType.{erased as erased_of, argument_of, type_at, int_ty, u32, is_unit_in};
-ghost use Rattle.krml_types.specs.Typing.{at as type_there};
+ghost use Rattle.krml_syntax.specs.declared.tree.Ty.{out-Ty};
+ghost use Rattle.krml_ast.specs.IsType.{erased as erased_of, int_ty, u32, is_unit_in};
+ghost use Rattle.krml_ast.specs.Typing.{at as type_there};
 ghost use Rattle.krml_types.specs.Types.{same_int, all_same, ty_same, same_ty};
 
 pub use crate::formed::{are_arguments, is_flat, is_type};
-use krml_ast::{IntTy, Ty};
+use krml_ast::type_at;
+use krml_syntax::{IntTy, Ty};
 use krml_trace::{Box, Name, NoMemory, Seq, Width};
 use std::alloc::Global;
-
-fn copy_name(alloc: Global, x: &Name) -> Result<Name, NoMemory>
-    ensures { IfOk result (λ r. r ≡ x.now) }
-{
-    Name::new(alloc, x.as_bytes())
-}
-
-/// A copy of a type.
-#[cycle(clone)]
-pub fn clone_ty(alloc: Global, a: &Ty) -> Result<Ty, NoMemory>
-    ensures { IfOk result (λ r. r ≡ a.now) }
-{
-    match a {
-        Ty::Bool => Ok(Ty::Bool),
-        Ty::Unit => Ok(Ty::Unit),
-        Ty::Int(i) => Ok(Ty::Int(*i)),
-        Ty::Buf(b) => {
-            let b = clone_ty(alloc, b.get())?;
-            Ok(Ty::Buf(Box::new(alloc, b)?))
-        }
-        Ty::Var(x) => Ok(Ty::Var(copy_name(alloc, x)?)),
-        Ty::Named(x, args) => {
-            let args = clone_each(alloc, args.as_slice())?;
-            Ok(Ty::Named(copy_name(alloc, x)?, args))
-        }
-    }
-}
-
-#[cycle(clone)]
-fn clone_each(alloc: Global, types: &[Ty]) -> Result<Seq<Ty>, NoMemory>
-    ensures { IfOk result (λ r. r ≡ types.now) }
-{
-    let mut all = Seq::new(alloc);
-    for ty in types {
-        all.push(clone_ty(alloc, ty)?)?;
-    }
-    Ok(all)
-}
 
 /// The type with each integer type as the public one of its width.
 #[cycle(erase)]
@@ -62,10 +25,10 @@ pub fn erased(alloc: Global, a: &Ty) -> Result<Ty, NoMemory>
             let b = erased(alloc, b.get())?;
             Ok(Ty::Buf(Box::new(alloc, b)?))
         }
-        Ty::Var(x) => Ok(Ty::Var(copy_name(alloc, x)?)),
+        Ty::Var(x) => Ok(Ty::Var(Name::new(alloc, x.as_bytes())?)),
         Ty::Named(x, args) => {
             let args = erase_each(alloc, args.as_slice())?;
-            Ok(Ty::Named(copy_name(alloc, x)?, args))
+            Ok(Ty::Named(Name::new(alloc, x.as_bytes())?, args))
         }
     }
 }
@@ -77,54 +40,6 @@ fn erase_each(alloc: Global, types: &[Ty]) -> Result<Seq<Ty>, NoMemory>
     let mut all = Seq::new(alloc);
     for ty in types {
         all.push(erased(alloc, ty)?)?;
-    }
-    Ok(all)
-}
-
-/// The argument of a type variable. A variable that has none stays.
-fn argument_of(alloc: Global, vars: &[Name], args: &[Ty], x: &Name) -> Result<Ty, NoMemory>
-    ensures { IfOk result (λ r. r ≡ argument_of vars.now args.now x.now) }
-{
-    let [v, vars @ ..] = vars else {
-        return Ok(Ty::Var(copy_name(alloc, x)?));
-    };
-    let [a, args @ ..] = args else {
-        return Ok(Ty::Var(copy_name(alloc, x)?));
-    };
-    if v.as_bytes() == x.as_bytes() {
-        return clone_ty(alloc, a);
-    }
-    argument_of(alloc, vars, args, x)
-}
-
-/// The type with arguments in place of type variables.
-#[cycle(apply)]
-fn type_at(alloc: Global, a: &Ty, vars: &[Name], args: &[Ty]) -> Result<Ty, NoMemory>
-    ensures { IfOk result (λ r. r ≡ type_at vars.now args.now a.now) }
-{
-    match a {
-        Ty::Bool => Ok(Ty::Bool),
-        Ty::Unit => Ok(Ty::Unit),
-        Ty::Int(i) => Ok(Ty::Int(*i)),
-        Ty::Buf(b) => {
-            let b = type_at(alloc, b.get(), vars, args)?;
-            Ok(Ty::Buf(Box::new(alloc, b)?))
-        }
-        Ty::Var(x) => argument_of(alloc, vars, args, x),
-        Ty::Named(x, types) => {
-            let types = each_at(alloc, types.as_slice(), vars, args)?;
-            Ok(Ty::Named(copy_name(alloc, x)?, types))
-        }
-    }
-}
-
-#[cycle(apply)]
-fn each_at(alloc: Global, types: &[Ty], vars: &[Name], args: &[Ty]) -> Result<Seq<Ty>, NoMemory>
-    ensures { IfOk result (λ r. r ≡ map (type_at vars.now args.now) types.now) }
-{
-    let mut all = Seq::new(alloc);
-    for ty in types {
-        all.push(type_at(alloc, ty, vars, args)?)?;
     }
     Ok(all)
 }

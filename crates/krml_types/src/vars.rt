@@ -1,10 +1,10 @@
 ghost use Rattle.std.specs.Prelude.{◌≡◌, ◌∷◌, [], ◌++◌, ◌-◌, IfOk, OnOk, length, reverse};
-ghost use Rattle.krml_types.specs.Typing.{look};
+ghost use Rattle.krml_ast.specs.Typing.{look};
 ghost use Rattle.krml_types.specs.Parts.{is_new, are_distinct};
 ghost use Rattle.krml_types.specs.Scopes.{cut};
 
-use crate::types::clone_ty;
-use krml_ast::Ty;
+use krml_ast::clone_ty;
+use krml_syntax::Ty;
 use krml_trace::{Name, NoMemory};
 use std::alloc::Global;
 use std::marker::Model;
@@ -18,8 +18,8 @@ pub struct Vars {
 impl Model for Vars {
     ghost use Rattle.std.specs.Prelude.{List, ℕ, reverse};
     ghost use Rattle.std.specs.Coded.{codes};
-    ghost use Rattle.krml_ast.specs.declared.tree.Ty.{Ty};
-    ghost use Rattle.krml_ast.specs.contracts.tree.Ty as ty;
+    ghost use Rattle.krml_syntax.specs.declared.tree.Ty.{Ty};
+    ghost use Rattle.krml_syntax.specs.contracts.tree.Ty as ty;
 
     ghost Value = { List (List ℕ × Ty) };
 

@@ -4,7 +4,7 @@ use Rattle.std.specs.Fmt.{decimal}
 use Rattle.krml_forms.specs.declared.form.Form.{Form}
 use Rattle.krml_forms.specs.declared.form.Form.TheVariants.{Atom, List as Node}
 use Rattle.krml_forms.specs.Writing.{IsWord}
-use Rattle.krml_ast.specs.Number.{IsNumber}
+use Rattle.krml_syntax.specs.Number.{IsNumber}
 
 mutual
   -- They have the same words in the same places, but that the second has a number in decimal digits where the first

@@ -13,9 +13,9 @@ use Rattle.krml_forms.specs.declared.form.Form.TheFolds.{fold_out-Form, para-rol
 use Rattle.krml_forms.specs.Levels.{Within, AllWithin, form_count}
 use Rattle.krml_forms.specs.Writing.{Writable, AllWritable}
 use Rattle.krml_forms.proofs.Layer.{atom_within, list_within, list_inside, count_of_atom, count_of_list}
-use Rattle.krml_ast.specs.Limits.{word_length, level_word_lengths, word_lengths, is_alloc_in, own_length, level_alloc_lengths, alloc_lengths, first_above}
-use Rattle.krml_ast.specs.Number.{IsNumber, number_of, number_at}
-use Rattle.krml_ast.proofs.Numbers.{number_at_again}
+use Rattle.krml_syntax.specs.Limits.{word_length, level_word_lengths, word_lengths, is_alloc_in, own_length, level_alloc_lengths, alloc_lengths, first_above}
+use Rattle.krml_syntax.specs.Number.{IsNumber, number_of, number_at}
+use Rattle.krml_syntax.proofs.Numbers.{number_at_again}
 use Rattle.krml_writer.proofs.Alike.{Alike, AllAlike}
 use Rattle.krml_writer.proofs.WordBytes.{decimal_is_word}
 

@@ -1,11 +1,11 @@
 -- Limits that forms exceed nowhere, forms that differ in how their numbers are written exceed nowhere.
 use Rattle.std.proofs.Common.{◌≡◌, ℕ, List, [], ◌∷◌, Option, Some, None, refl, subst}
 use Rattle.krml_forms.specs.declared.form.Form.{Form}
-use Rattle.krml_ast.specs.declared.limit.LimitKind.{LimitKind}
-use Rattle.krml_ast.specs.declared.limit.LimitKind.TheVariants as k
-use Rattle.krml_ast.specs.declared.tree.Def.{Def}
-use Rattle.krml_ast.specs.declared.tree.Def.TheVariants as d
-use Rattle.krml_ast.specs.Limits.{limit_of, kinds, counts_in, counts_each, excess, excess_or, first_excess_of, first_excess}
+use Rattle.krml_syntax.specs.declared.limit.LimitKind.{LimitKind}
+use Rattle.krml_syntax.specs.declared.limit.LimitKind.TheVariants as k
+use Rattle.krml_syntax.specs.declared.tree.Def.{Def}
+use Rattle.krml_syntax.specs.declared.tree.Def.TheVariants as d
+use Rattle.krml_syntax.specs.Limits.{limit_of, kinds, counts_in, counts_each, excess, excess_or, first_excess_of, first_excess}
 use Rattle.krml_writer.proofs.Alike.{Alike, AllAlike}
 use Rattle.krml_writer.proofs.Kept.{Fits, both_fit, parts_fit, same_count, names_fit, same_allocs}
 

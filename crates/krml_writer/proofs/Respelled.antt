@@ -4,25 +4,25 @@ use Rattle.krml_trace.specs.declared.width.Width.{Width}
 use Rattle.krml_trace.specs.Name.{IsName}
 use Rattle.krml_forms.specs.declared.form.Form.{Form}
 use Rattle.krml_forms.specs.declared.form.Form.TheVariants.{Atom, List as Node}
-use Rattle.krml_ast.specs.declared.tree.IntTy.{IntTy}
-use Rattle.krml_ast.specs.declared.tree.Ty.{Ty}
-use Rattle.krml_ast.specs.declared.tree.Ty.TheVariants as t
-use Rattle.krml_ast.specs.declared.tree.Ty.TheFolds.{fold_out-Ty}
-use Rattle.krml_ast.specs.declared.tree.Pat.{Pat}
-use Rattle.krml_ast.specs.declared.tree.Pat.TheVariants as p
-use Rattle.krml_ast.specs.declared.tree.Pat.TheFolds.{fold_out-Pat}
-use Rattle.krml_ast.specs.declared.tree.Arm.{Arm}
-use Rattle.krml_ast.specs.declared.tree.Item.{Item}
-use Rattle.krml_ast.specs.declared.tree.Item.TheVariants as item
-use Rattle.krml_ast.specs.declared.tree.Expr.{Expr}
-use Rattle.krml_ast.specs.declared.tree.Expr.TheVariants as e
-use Rattle.krml_ast.specs.declared.tree.Expr.TheFolds.{fold_out-Expr, fold_out-Item, fold-roll-Arm}
-use Rattle.krml_ast.specs.declared.tree.Field.{Field}
-use Rattle.krml_ast.specs.declared.tree.Con.{Con}
-use Rattle.krml_ast.specs.declared.tree.Def.{Def}
-use Rattle.krml_ast.specs.Number.{IsNumber}
+use Rattle.krml_syntax.specs.declared.tree.IntTy.{IntTy}
+use Rattle.krml_syntax.specs.declared.tree.Ty.{Ty}
+use Rattle.krml_syntax.specs.declared.tree.Ty.TheVariants as t
+use Rattle.krml_syntax.specs.declared.tree.Ty.TheFolds.{fold_out-Ty}
+use Rattle.krml_syntax.specs.declared.tree.Pat.{Pat}
+use Rattle.krml_syntax.specs.declared.tree.Pat.TheVariants as p
+use Rattle.krml_syntax.specs.declared.tree.Pat.TheFolds.{fold_out-Pat}
+use Rattle.krml_syntax.specs.declared.tree.Arm.{Arm}
+use Rattle.krml_syntax.specs.declared.tree.Item.{Item}
+use Rattle.krml_syntax.specs.declared.tree.Item.TheVariants as item
+use Rattle.krml_syntax.specs.declared.tree.Expr.{Expr}
+use Rattle.krml_syntax.specs.declared.tree.Expr.TheVariants as e
+use Rattle.krml_syntax.specs.declared.tree.Expr.TheFolds.{fold_out-Expr, fold_out-Item, fold-roll-Arm}
+use Rattle.krml_syntax.specs.declared.tree.Field.{Field}
+use Rattle.krml_syntax.specs.declared.tree.Con.{Con}
+use Rattle.krml_syntax.specs.declared.tree.Def.{Def}
+use Rattle.krml_syntax.specs.Number.{IsNumber}
 use Rattle.krml_forms.specs.Writing.{IsWord}
-use Rattle.krml_ast.specs.Spelling.{int_word, bin_word, shift_word, cmp_word, Each, SpellsVar, SpellsNumber, SpellsLength, SpellsTy, SpellsTys, SpellsPat, SpellsPats, Spells, SpellsAll, SpellsArm, SpellsArms, SpellsItem, SpellsItems, SpellsField, SpellsCon, SpellsDef, SpellsDefs}
+use Rattle.krml_syntax.specs.Spelling.{int_word, bin_word, shift_word, cmp_word, Each, SpellsVar, SpellsNumber, SpellsLength, SpellsTy, SpellsTys, SpellsPat, SpellsPats, Spells, SpellsAll, SpellsArm, SpellsArms, SpellsItem, SpellsItems, SpellsField, SpellsCon, SpellsDef, SpellsDefs}
 use Rattle.krml_writer.specs.Written.{form_of_ty, form_of_pat, form_of_expr, form_of_item, form_of_arm, form_of_var, form_of_number, form_of_field, form_of_con, form_of_def}
 use Rattle.krml_writer.proofs.Alike.{Alike, AllAlike, all_both}
 use Rattle.krml_writer.proofs.WordBytes.{name_is_word, variable_is_word, int_is_word, bool_is_word, bin_is_word, shift_is_word, cmp_is_word, below_all_widths}

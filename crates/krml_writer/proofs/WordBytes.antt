@@ -15,13 +15,13 @@ use Rattle.krml_trace.specs.declared.width.Width.{Width}
 use Rattle.krml_trace.specs.declared.width.Width.TheVariants.{W8, W32, W64}
 use Rattle.krml_forms.specs.Text.{is_word}
 use Rattle.krml_forms.specs.Writing.{IsWord}
-use Rattle.krml_ast.specs.declared.tree.IntTy.{IntTy}
-use Rattle.krml_ast.specs.declared.tree.BinOp.{BinOp}
-use Rattle.krml_ast.specs.declared.tree.BinOp.TheVariants as binop
-use Rattle.krml_ast.specs.declared.tree.CmpOp.{CmpOp}
-use Rattle.krml_ast.specs.declared.tree.CmpOp.TheVariants as cmpop
-use Rattle.krml_ast.specs.Number.{is_digits}
-use Rattle.krml_ast.specs.Spelling.{int_word, bool_word, bin_word, shift_word, cmp_word}
+use Rattle.krml_syntax.specs.declared.tree.IntTy.{IntTy}
+use Rattle.krml_syntax.specs.declared.tree.BinOp.{BinOp}
+use Rattle.krml_syntax.specs.declared.tree.BinOp.TheVariants as binop
+use Rattle.krml_syntax.specs.declared.tree.CmpOp.{CmpOp}
+use Rattle.krml_syntax.specs.declared.tree.CmpOp.TheVariants as cmpop
+use Rattle.krml_syntax.specs.Number.{is_digits}
+use Rattle.krml_syntax.specs.Spelling.{int_word, bool_word, bin_word, shift_word, cmp_word}
 
 -- ---- names
 

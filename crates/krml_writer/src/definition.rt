@@ -4,8 +4,8 @@ ghost use Rattle.krml_writer.specs.Written.{form_of_var, form_of_number, form_of
 use crate::expression::form_of_expr;
 use crate::part::{headed, headed_by_two, number, row, variable, word};
 use crate::types::{form_of_ty, forms_of_tys};
-use krml_ast::{Con, Def, Expr, Field, IntTy, Ty, int_word};
 use krml_forms::Form;
+use krml_syntax::{Con, Def, Expr, Field, IntTy, Ty, int_word};
 use krml_trace::{Name, NoMemory, Seq};
 use std::alloc::Global;
 

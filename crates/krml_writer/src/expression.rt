@@ -3,8 +3,8 @@ ghost use Rattle.krml_writer.specs.Written.{applied_form, frame_form, form_of_ex
 
 use crate::part::{headed, headed_by_two, number, row, word};
 use crate::types::{form_of_pat, form_of_ty, forms_of_tys};
-use krml_ast::{Arm, Expr, Item, Slot, Ty, bin_word, bool_word, cmp_word, int_word, shift_word};
 use krml_forms::Form;
+use krml_syntax::{Arm, Expr, Item, Slot, Ty, bin_word, bool_word, cmp_word, int_word, shift_word};
 use krml_trace::{Name, NoMemory, Seq};
 use std::alloc::Global;
 

@@ -1,13 +1,13 @@
 ghost use Rattle.std.specs.Prelude.{◌≡◌, ℕ, ◌≤◌, List, length, None};
 ghost use Rattle.krml_forms.specs.Levels.{AllWithin};
 ghost use Rattle.krml_forms.specs.Text.{HasForms};
-ghost use Rattle.krml_ast.specs.File.{SpellsFile};
-ghost use Rattle.krml_ast.specs.Limits.{first_excess};
-ghost use Rattle.krml_ast.specs.Spelling.{SpellsDefs};
+ghost use Rattle.krml_syntax.specs.File.{SpellsFile};
+ghost use Rattle.krml_syntax.specs.Limits.{first_excess};
+ghost use Rattle.krml_syntax.specs.Spelling.{SpellsDefs};
 ghost use Rattle.krml_writer.specs.Written.{forms_of, text_of};
 
-use krml_ast::SourceFile;
 use krml_forms::{Form, written_forms_are_read};
+use krml_syntax::SourceFile;
 
 /// The written text of a file that forms spell has forms that spell the file. They are no deeper than any forms that
 /// do, and exceed no limit where those exceed none. So the written text of a file that a text within the limits

@@ -1,5 +1,5 @@
 use crate::write_file;
-use krml_ast::{Arm, BinOp, Con, Def, Expr, Field, IntTy, Item, Pat, SourceFile, Ty};
+use krml_syntax::{Arm, BinOp, Con, Def, Expr, Field, IntTy, Item, Pat, SourceFile, Ty};
 use krml_trace::{Box, Name, NoMemory, Seq, Width};
 use std::alloc::Global;
 use std::test::Fail;

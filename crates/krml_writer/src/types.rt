@@ -2,8 +2,8 @@ ghost use Rattle.std.specs.Prelude.{◌≡◌, IfOk, map};
 ghost use Rattle.krml_writer.specs.Written.{named_form, form_of_ty, form_of_pat};
 
 use crate::part::{headed, headed_by_two, number, row, variable, word};
-use krml_ast::{Pat, Ty, bool_word, int_word};
 use krml_forms::Form;
+use krml_syntax::{Pat, Ty, bool_word, int_word};
 use krml_trace::{NoMemory, Seq};
 use std::alloc::Global;
 

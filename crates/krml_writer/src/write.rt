@@ -2,8 +2,8 @@ ghost use Rattle.std.specs.Prelude.{◌≡◌, IfOk};
 ghost use Rattle.krml_writer.specs.Written.{text_of};
 
 use crate::definition::forms_of_defs;
-use krml_ast::SourceFile;
 use krml_forms::write_forms;
+use krml_syntax::SourceFile;
 use krml_trace::NoMemory;
 use std::alloc::Global;
 

@@ -1,6 +1,6 @@
 use Rattle.std.proofs.Common.{◌≡◌, drop}
 use Rattle.std.specs.List.{flat_map}
-use Rattle.krml_ast.specs.Limits.{first_above, alloc_lengths}
+use Rattle.krml_syntax.specs.Limits.{first_above, alloc_lengths}
 use Rattle.krml_limits.proofs.elements.+elements.Given as goal
 
 abbrev pub invariant-long_alloc_of-loop-form : goal.invariant-long_alloc_of-loop-form

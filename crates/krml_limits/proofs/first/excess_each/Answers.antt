@@ -2,7 +2,7 @@ use Rattle.std.proofs.Common.{inr, sym, ◌∙◌, subst}
 use Rattle.std.specs.Iterator.Adapters.{zip_first, zip_second}
 use Rattle.std.specs.Slice.Iter.{iter_rest}
 use Rattle.std.proofs.lemmas.Slice.Zip.{either_empty_from_Zip}
-use Rattle.krml_ast.specs.Limits.{first_above, counts_each}
+use Rattle.krml_syntax.specs.Limits.{first_above, counts_each}
 use Rattle.krml_limits.specs.Uncounted.{HasUncounted}
 use Rattle.krml_limits.proofs.Above.{pair_finds, pair_goes, pairs_end}
 use Rattle.krml_limits.proofs.first.excess_each.Goals as goal

@@ -1,7 +1,7 @@
 use Rattle.std.proofs.Common.{◌≡◌}
 use Rattle.std.specs.Iterator.Adapters.{zip_first, zip_second}
 use Rattle.std.specs.Slice.Iter.{iter_rest}
-use Rattle.krml_ast.specs.Limits.{first_above, counts_each}
+use Rattle.krml_syntax.specs.Limits.{first_above, counts_each}
 use Rattle.krml_limits.specs.Uncounted.{HasUncounted}
 use Rattle.krml_limits.proofs.first.excess_each.Given as goal
 

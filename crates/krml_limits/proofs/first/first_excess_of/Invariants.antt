@@ -1,5 +1,5 @@
 use Rattle.std.proofs.Common.{◌≡◌, drop}
-use Rattle.krml_ast.specs.Limits.{first_excess_of}
+use Rattle.krml_syntax.specs.Limits.{first_excess_of}
 use Rattle.krml_limits.proofs.first.first_excess_of.Given as goal
 
 abbrev pub invariant-loop-kind : goal.invariant-loop-kind

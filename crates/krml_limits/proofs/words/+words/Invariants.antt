@@ -1,6 +1,6 @@
 use Rattle.std.proofs.Common.{◌≡◌, drop}
 use Rattle.std.specs.List.{flat_map}
-use Rattle.krml_ast.specs.Limits.{first_above, word_lengths}
+use Rattle.krml_syntax.specs.Limits.{first_above, word_lengths}
 use Rattle.krml_limits.proofs.words.+words.Given as goal
 
 abbrev pub invariant-long_word_of-loop-form : goal.invariant-long_word_of-loop-form

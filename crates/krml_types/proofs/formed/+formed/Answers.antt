@@ -1,5 +1,5 @@
 use Rattle.std.proofs.Common.{rules, sym}
-use Rattle.krml_types.specs.Names.{type_named}
+use Rattle.krml_ast.specs.Names.{type_named}
 use Rattle.krml_types.specs.Types.{is_flat}
 use Rattle.krml_types.proofs.Decided.{type_bool, type_unit, type_int, type_buf, type_var, type_name}
 use Rattle.krml_types.proofs.formed.+formed.Goals as goal

@@ -1,5 +1,5 @@
 use Rattle.std.proofs.Common.{◌≡◌, drop}
-use Rattle.krml_types.specs.Names.{type_named}
+use Rattle.krml_ast.specs.Names.{type_named}
 use Rattle.krml_types.specs.Types.{is_flat, are_arguments_by}
 use Rattle.krml_types.proofs.formed.+formed.Given as goal
 

@@ -1,5 +1,5 @@
 use Rattle.std.proofs.Common.{◌≡◌, map, take}
-use Rattle.krml_types.specs.IsType.{erased}
+use Rattle.krml_ast.specs.IsType.{erased}
 use Rattle.krml_types.proofs.instance.each_erased.Given as goal
 
 abbrev pub invariant-loop-ty : goal.invariant-loop-ty

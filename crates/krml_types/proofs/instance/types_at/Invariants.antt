@@ -1,5 +1,5 @@
 use Rattle.std.proofs.Common.{◌≡◌, map, take}
-use Rattle.krml_types.specs.Typing.{at}
+use Rattle.krml_ast.specs.Typing.{at}
 use Rattle.krml_types.proofs.instance.types_at.Given as goal
 
 abbrev pub invariant-loop-ty : goal.invariant-loop-ty

@@ -1,5 +1,5 @@
 use Rattle.std.proofs.Common.{◌≡◌, drop}
-use Rattle.krml_types.specs.WellTyped.{names_of}
+use Rattle.krml_ast.specs.WellTyped.{names_of}
 use Rattle.krml_types.specs.Definitions.{is_fresh}
 use Rattle.krml_types.proofs.names.is_fresh_field.Given as goal
 

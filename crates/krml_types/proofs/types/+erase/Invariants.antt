@@ -1,5 +1,5 @@
 use Rattle.std.proofs.Common.{◌≡◌, map, take}
-use Rattle.krml_types.specs.IsType.{erased}
+use Rattle.krml_ast.specs.IsType.{erased}
 use Rattle.krml_types.proofs.types.+erase.Given as goal
 
 abbrev pub invariant-erase_each-loop-ty : goal.invariant-erase_each-loop-ty

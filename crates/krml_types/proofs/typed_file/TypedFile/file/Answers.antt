@@ -1,5 +1,5 @@
 use Rattle.std.proofs.Common.{subst}
-use Rattle.krml_types.specs.WellTyped.{AreWellTyped}
+use Rattle.krml_ast.specs.WellTyped.{AreWellTyped}
 use Rattle.krml_types.proofs.Faults.{IsAnswer, first_is}
 use Rattle.krml_types.proofs.typed_file.TypedFile.file.Goals as goal
 

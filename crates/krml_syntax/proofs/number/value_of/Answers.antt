@@ -1,6 +1,6 @@
 use Rattle.std.proofs.Common.{◌∙◌}
-use Rattle.krml_ast.proofs.Numbers.{parse_is_value, digits_are_text}
-use Rattle.krml_ast.proofs.number.value_of.Goals as goal
+use Rattle.krml_syntax.proofs.Numbers.{parse_is_value, digits_are_text}
+use Rattle.krml_syntax.proofs.number.value_of.Goals as goal
 
 pub returns-in-Ok : goal.returns-in-Ok
 returns-in-Ok c =

@@ -3,14 +3,14 @@ use Rattle.std.specs.Prelude.{◌≡◌, ℕ, Bool, true, false, if◌then◌els
 use Rattle.std.specs.List.{Contains}
 use Rattle.std.specs.Str.{bytes_eq}
 use Rattle.krml_trace.specs.declared.width.Width.TheVariants.{W32}
-use Rattle.krml_ast.specs.declared.tree.IntTy.{IntTy}
-use Rattle.krml_ast.specs.declared.tree.Ty.{Ty, out-Ty}
-use Rattle.krml_ast.specs.declared.tree.Ty.TheVariants as t
-use Rattle.krml_ast.specs.declared.tree.Ty.TheOpen.{Ty-F}
-use Rattle.krml_ast.specs.declared.tree.Ty.TheFolds.{fold-Ty}
-use Rattle.krml_ast.specs.declared.tree.Field.{Field}
-use Rattle.krml_ast.specs.declared.tree.Def.{Def}
-use Rattle.krml_types.specs.Names.{Composite, Struct, Sum, type_named}
+use Rattle.krml_syntax.specs.declared.tree.IntTy.{IntTy}
+use Rattle.krml_syntax.specs.declared.tree.Ty.{Ty, out-Ty}
+use Rattle.krml_syntax.specs.declared.tree.Ty.TheVariants as t
+use Rattle.krml_syntax.specs.declared.tree.Ty.TheOpen.{Ty-F}
+use Rattle.krml_syntax.specs.declared.tree.Ty.TheFolds.{fold-Ty}
+use Rattle.krml_syntax.specs.declared.tree.Field.{Field}
+use Rattle.krml_syntax.specs.declared.tree.Def.{Def}
+use Rattle.krml_ast.specs.Names.{Composite, Struct, Sum, type_named}
 
 -- ---- labels erased
 

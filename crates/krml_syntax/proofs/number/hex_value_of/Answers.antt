@@ -1,6 +1,6 @@
 use Rattle.std.proofs.Common.{◌∙◌}
-use Rattle.krml_ast.proofs.Numbers.{hex_parse_is_value, hex_are_text}
-use Rattle.krml_ast.proofs.number.hex_value_of.Goals as goal
+use Rattle.krml_syntax.proofs.Numbers.{hex_parse_is_value, hex_are_text}
+use Rattle.krml_syntax.proofs.number.hex_value_of.Goals as goal
 
 pub returns-in-Ok : goal.returns-in-Ok
 returns-in-Ok c =

@@ -3,9 +3,9 @@ use Rattle.std.specs.Prelude.{◌≡◌, ℕ, ◌≤◌, List, length, None}
 use Rattle.krml_forms.specs.declared.form.Form.{Form}
 use Rattle.krml_forms.specs.Levels.{AllWithin}
 use Rattle.krml_forms.specs.Text.{HasForms}
-use Rattle.krml_ast.specs.declared.tree.SourceFile.{SourceFile}
-use Rattle.krml_ast.specs.Limits.{first_excess}
-use Rattle.krml_ast.specs.Spelling.{SpellsDefs}
+use Rattle.krml_syntax.specs.declared.tree.SourceFile.{SourceFile}
+use Rattle.krml_syntax.specs.Limits.{first_excess}
+use Rattle.krml_syntax.specs.Spelling.{SpellsDefs}
 
 -- A text spells a file within the limits.
 pub record SpellsFile (text : List ℕ) (file : SourceFile) : Type 0 where

@@ -1,5 +1,5 @@
 ghost use Rattle.std.specs.Prelude.{◌≡◌};
-ghost use Rattle.krml_ast.specs.Spelling.{int_word, bool_word, bin_word, shift_word, cmp_word};
+ghost use Rattle.krml_syntax.specs.Spelling.{int_word, bool_word, bin_word, shift_word, cmp_word};
 
 use crate::tree::{BinOp, CmpOp, IntTy};
 use krml_trace::Width;

@@ -17,9 +17,9 @@ use Rattle.std.proofs.Math.Nat.{pow-le-pow_right}
 use Rattle.krml_forms.specs.declared.form.Form.{Form, out-Form}
 use Rattle.krml_forms.specs.declared.form.Form.TheOpen.{Form-F}
 use Rattle.krml_forms.specs.declared.form.Form.TheVariants.{Atom, outs-Atom}
-use Rattle.krml_ast.specs.Number.{is_hex_digit, IsNumber, is_digits, is_plain, value_of, decimal_of, are_hex_digits, hex_value_of, hexadecimal_of, number_of, number_in, number_at}
+use Rattle.krml_syntax.specs.Number.{is_hex_digit, IsNumber, is_digits, is_plain, value_of, decimal_of, are_hex_digits, hex_value_of, hexadecimal_of, number_of, number_in, number_at}
 use Rattle.krml_forms.proofs.Layer.{is_atom}
-use Rattle.krml_ast.proofs.Only.{Only, only_none, only_some, only_if, only_more}
+use Rattle.krml_syntax.proofs.Only.{Only, only_none, only_some, only_if, only_more}
 
 own : IsNumeralModel (λ ds. is_digits ds ≡ true) (digits_value 10)
 own = numerals_by_value _ (search rules)

@@ -1,6 +1,6 @@
 use Rattle.std.proofs.Common.{◌≡◌, map, take}
-use Rattle.krml_types.specs.IsType.{type_at}
-use Rattle.krml_types.proofs.types.+apply.Given as goal
+use Rattle.krml_ast.specs.IsType.{type_at}
+use Rattle.krml_ast.proofs.types.+apply.Given as goal
 
 abbrev pub invariant-each_at-loop-ty : goal.invariant-each_at-loop-ty
 invariant-each_at-loop-ty l = l.all ≡ map (type_at l.vars l.args) (take l.ty-index l.types)

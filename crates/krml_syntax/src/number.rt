@@ -1,5 +1,5 @@
 ghost use Rattle.std.specs.Prelude.{◌≡◌, true, ◌≤◌, length};
-ghost use Rattle.krml_ast.specs.Number.{is_digits, is_plain, are_hex_digits, decimal_of, value_of, hex_value_of, hexadecimal_of, number_of, number_at};
+ghost use Rattle.krml_syntax.specs.Number.{is_digits, is_plain, are_hex_digits, decimal_of, value_of, hex_value_of, hexadecimal_of, number_of, number_at};
 
 use krml_forms::Form;
 use std::str;

@@ -1,6 +1,6 @@
 -- What a reader gives has a property: a lemma for each kind of step.
 use Rattle.std.proofs.Common.{◌≡◌, Bool, true, false, cond, Option, Some, None, refl, subst}
-use Rattle.krml_ast.specs.Read.{◌>>=◌}
+use Rattle.krml_syntax.specs.Read.{◌>>=◌}
 
 -- what is given has P
 pub record Only {A : Type 0} (P : A → Type 0) (o : Option A) : Type 0 where

@@ -6,11 +6,11 @@ use Rattle.krml_forms.specs.declared.form.Form.{Form, out-Form}
 use Rattle.krml_forms.specs.declared.form.Form.TheOpen.{Form-F}
 use Rattle.krml_forms.specs.declared.form.Form.TheFolds.{fold-Form, para-Form}
 use Rattle.krml_forms.specs.Levels.{form_count}
-use Rattle.krml_ast.specs.declared.limit.LimitKind.{LimitKind}
-use Rattle.krml_ast.specs.declared.limit.LimitKind.TheVariants as k
-use Rattle.krml_ast.specs.declared.tree.Def.{Def}
-use Rattle.krml_ast.specs.declared.tree.Def.TheVariants as d
-use Rattle.krml_ast.specs.Number.{number_at}
+use Rattle.krml_syntax.specs.declared.limit.LimitKind.{LimitKind}
+use Rattle.krml_syntax.specs.declared.limit.LimitKind.TheVariants as k
+use Rattle.krml_syntax.specs.declared.tree.Def.{Def}
+use Rattle.krml_syntax.specs.declared.tree.Def.TheVariants as d
+use Rattle.krml_syntax.specs.Number.{number_at}
 
 abbrev pub limit_of : LimitKind → ℕ
 limit_of k.Definitions = 2000

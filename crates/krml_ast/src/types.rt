@@ -1,0 +1,88 @@
+//! Copies of types, and types at type arguments.
+
+ghost use Rattle.std.specs.Prelude.{◌≡◌, IfOk, map};
+ghost use Rattle.krml_ast.specs.IsType.{argument_of, type_at};
+
+use krml_syntax::Ty;
+use krml_trace::{Box, Name, NoMemory, Seq};
+use std::alloc::Global;
+
+/// A copy of a type.
+#[cycle(clone)]
+pub fn clone_ty(alloc: Global, a: &Ty) -> Result<Ty, NoMemory>
+    ensures { IfOk result (λ r. r ≡ a.now) }
+{
+    match a {
+        Ty::Bool => Ok(Ty::Bool),
+        Ty::Unit => Ok(Ty::Unit),
+        Ty::Int(i) => Ok(Ty::Int(*i)),
+        Ty::Buf(b) => {
+            let b = clone_ty(alloc, b.get())?;
+            Ok(Ty::Buf(Box::new(alloc, b)?))
+        }
+        Ty::Var(x) => Ok(Ty::Var(Name::new(alloc, x.as_bytes())?)),
+        Ty::Named(x, args) => {
+            let args = clone_each(alloc, args.as_slice())?;
+            Ok(Ty::Named(Name::new(alloc, x.as_bytes())?, args))
+        }
+    }
+}
+
+#[cycle(clone)]
+fn clone_each(alloc: Global, types: &[Ty]) -> Result<Seq<Ty>, NoMemory>
+    ensures { IfOk result (λ r. r ≡ types.now) }
+{
+    let mut all = Seq::new(alloc);
+    for ty in types {
+        all.push(clone_ty(alloc, ty)?)?;
+    }
+    Ok(all)
+}
+
+/// The argument of a type variable. A variable that has none stays.
+fn argument_of(alloc: Global, vars: &[Name], args: &[Ty], x: &Name) -> Result<Ty, NoMemory>
+    ensures { IfOk result (λ r. r ≡ argument_of vars.now args.now x.now) }
+{
+    let [v, vars @ ..] = vars else {
+        return Ok(Ty::Var(Name::new(alloc, x.as_bytes())?));
+    };
+    let [a, args @ ..] = args else {
+        return Ok(Ty::Var(Name::new(alloc, x.as_bytes())?));
+    };
+    if v.as_bytes() == x.as_bytes() {
+        return clone_ty(alloc, a);
+    }
+    argument_of(alloc, vars, args, x)
+}
+
+/// A type with type arguments in place of the type variables. A variable that has no argument stays.
+#[cycle(apply)]
+pub fn type_at(alloc: Global, a: &Ty, vars: &[Name], args: &[Ty]) -> Result<Ty, NoMemory>
+    ensures { IfOk result (λ r. r ≡ type_at vars.now args.now a.now) }
+{
+    match a {
+        Ty::Bool => Ok(Ty::Bool),
+        Ty::Unit => Ok(Ty::Unit),
+        Ty::Int(i) => Ok(Ty::Int(*i)),
+        Ty::Buf(b) => {
+            let b = type_at(alloc, b.get(), vars, args)?;
+            Ok(Ty::Buf(Box::new(alloc, b)?))
+        }
+        Ty::Var(x) => argument_of(alloc, vars, args, x),
+        Ty::Named(x, types) => {
+            let types = each_at(alloc, types.as_slice(), vars, args)?;
+            Ok(Ty::Named(Name::new(alloc, x.as_bytes())?, types))
+        }
+    }
+}
+
+#[cycle(apply)]
+fn each_at(alloc: Global, types: &[Ty], vars: &[Name], args: &[Ty]) -> Result<Seq<Ty>, NoMemory>
+    ensures { IfOk result (λ r. r ≡ map (type_at vars.now args.now) types.now) }
+{
+    let mut all = Seq::new(alloc);
+    for ty in types {
+        all.push(type_at(alloc, ty, vars, args)?)?;
+    }
+    Ok(all)
+}

@@ -1,0 +1,6 @@
+pub mod File
+pub mod Limits
+pub mod Name
+pub mod Number
+pub mod Read
+pub mod Spelling
