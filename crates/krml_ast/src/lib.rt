@@ -3,12 +3,14 @@
 
 mod evaluate;
 mod event;
+mod file;
 mod run;
 mod types;
 mod value;
 
 pub use evaluate::evaluate_source;
 pub use event::SourceEvent;
+pub use file::{BundledFile, CheckedFile, Emitted, HoistedFile, MonoFile, PlainFile};
 pub use krml_syntax::{
     Arm, BinOp, Case, CmpOp, Con, Def, Expr, Field, IntTy, Item, LimitKind, Pat, Slot, SourceFile,
     Ty,
