@@ -1,1 +1,6 @@
 pub mod Evals
+pub mod Examples
+pub mod Firsts
+pub mod Labelled
+pub mod LabelledTypes
+pub mod Scopes

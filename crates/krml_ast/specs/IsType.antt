@@ -10,7 +10,7 @@ use Rattle.krml_syntax.specs.declared.tree.Ty.TheOpen.{Ty-F}
 use Rattle.krml_syntax.specs.declared.tree.Ty.TheFolds.{fold-Ty}
 use Rattle.krml_syntax.specs.declared.tree.Field.{Field}
 use Rattle.krml_syntax.specs.declared.tree.Def.{Def}
-use Rattle.krml_ast.specs.Names.{Composite, Struct, Sum, type_named}
+use Rattle.krml_ast.specs.Names.{Composite, Struct, type_named, vars_of}
 
 -- ---- labels erased
 
@@ -75,10 +75,6 @@ pub data HoldsBuffer (defs : List Def) : Ty → Type 0 where
 pub record IsFlat (defs : List Def) (a : Ty) : Type 0 where
   pub value : IsValue a
   pub flat : HoldsBuffer defs a → ⊥
-
-abbrev pub vars_of : Composite → List (List ℕ)
-vars_of (Struct vars fields) = vars
-vars_of (Sum vars cons) = vars
 
 mutual
   -- A type is well formed among definitions of a file, in a definition with these type variables.

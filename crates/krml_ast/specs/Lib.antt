@@ -1,8 +1,13 @@
 pub mod Evaluate
 pub mod FileTypes
+pub mod Found
 pub mod IsType
+pub mod Labelled
 pub mod Meaning
 pub mod Names
 pub mod Pieces
+pub mod Places
+pub mod TypeParts
 pub mod Typing
+pub mod Vars
 pub mod WellTyped

@@ -1,5 +1,5 @@
 -- What the names of a file mean: the first definition of a kind that has the name.
-use Rattle.std.specs.Prelude.{ℕ, if◌then◌else◌, List, [], ◌∷◌, Option, Some, None}
+use Rattle.std.specs.Prelude.{ℕ, if◌then◌else◌, List, [], ◌∷◌, Option, Some, None, option_map}
 use Rattle.std.specs.Str.{bytes_eq}
 use Rattle.krml_syntax.specs.declared.tree.IntTy.{IntTy}
 use Rattle.krml_syntax.specs.declared.tree.Ty.{Ty}
@@ -7,6 +7,7 @@ use Rattle.krml_syntax.specs.declared.tree.Field.{Field}
 use Rattle.krml_syntax.specs.declared.tree.Con.{Con}
 use Rattle.krml_syntax.specs.declared.tree.Def.{Def}
 use Rattle.krml_syntax.specs.declared.tree.Def.TheVariants as d
+use Rattle.krml_syntax.specs.Read.{◌>>=◌}
 
 -- What a struct or a sum is made of, and its type variables.
 pub data Composite : Type 0 where
@@ -19,6 +20,30 @@ type_named [] x = None
 type_named (d.Struct name vars fields ∷ defs) x = if bytes_eq name x then Some (Struct vars fields) else type_named defs x
 type_named (d.Sum name vars cons ∷ defs) x = if bytes_eq name x then Some (Sum vars cons) else type_named defs x
 type_named (def ∷ defs) x = type_named defs x
+
+-- a struct: its type variables and its fields
+abbrev pub struct_of : Composite → Option (List (List ℕ) × List Field)
+struct_of (Struct vars fields) = Some (vars, fields)
+struct_of (Sum vars cons) = None
+
+abbrev pub struct_named : List Def → List ℕ → Option (List (List ℕ) × List Field)
+struct_named defs x = type_named defs x >>= struct_of
+
+-- a sum: its type variables and its constructors
+abbrev pub sum_of : Composite → Option (List (List ℕ) × List Con)
+sum_of (Struct vars fields) = None
+sum_of (Sum vars cons) = Some (vars, cons)
+
+abbrev pub sum_named : List Def → List ℕ → Option (List (List ℕ) × List Con)
+sum_named defs x = type_named defs x >>= sum_of
+
+abbrev pub vars_of : Composite → List (List ℕ)
+vars_of (Struct vars fields) = vars
+vars_of (Sum vars cons) = vars
+
+-- the type variables of a struct or a sum
+abbrev pub vars_named : List Def → List ℕ → Option (List (List ℕ))
+vars_named defs x = option_map vars_of (type_named defs x)
 
 -- the types of the arguments of a constructor of these
 abbrev pub con_in : List Con → List ℕ → Option (List Ty)

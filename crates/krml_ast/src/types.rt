@@ -1,7 +1,9 @@
-//! Copies of types, and types at type arguments.
+//! Copies of types, what they have, and types at type arguments.
 
-ghost use Rattle.std.specs.Prelude.{◌≡◌, IfOk, map};
+ghost use Rattle.std.specs.Prelude.{◌≡◌, IfOk, map, option_map};
+ghost use Rattle.krml_syntax.specs.declared.tree.Ty.{out-Ty};
 ghost use Rattle.krml_ast.specs.IsType.{argument_of, type_at};
+ghost use Rattle.krml_ast.specs.TypeParts.{element_of, name_of, arguments_of};
 
 use krml_syntax::Ty;
 use krml_trace::{Box, Name, NoMemory, Seq};
@@ -28,8 +30,9 @@ pub fn clone_ty(alloc: Global, a: &Ty) -> Result<Ty, NoMemory>
     }
 }
 
+/// Copies of types.
 #[cycle(clone)]
-fn clone_each(alloc: Global, types: &[Ty]) -> Result<Seq<Ty>, NoMemory>
+pub(crate) fn clone_each(alloc: Global, types: &[Ty]) -> Result<Seq<Ty>, NoMemory>
     ensures { IfOk result (λ r. r ≡ types.now) }
 {
     let mut all = Seq::new(alloc);
@@ -76,8 +79,14 @@ pub fn type_at(alloc: Global, a: &Ty, vars: &[Name], args: &[Ty]) -> Result<Ty, 
     }
 }
 
+/// Types with type arguments in place of the type variables.
 #[cycle(apply)]
-fn each_at(alloc: Global, types: &[Ty], vars: &[Name], args: &[Ty]) -> Result<Seq<Ty>, NoMemory>
+pub(crate) fn each_at(
+    alloc: Global,
+    types: &[Ty],
+    vars: &[Name],
+    args: &[Ty],
+) -> Result<Seq<Ty>, NoMemory>
     ensures { IfOk result (λ r. r ≡ map (type_at vars.now args.now) types.now) }
 {
     let mut all = Seq::new(alloc);
@@ -85,4 +94,34 @@ fn each_at(alloc: Global, types: &[Ty], vars: &[Name], args: &[Ty]) -> Result<Se
         all.push(type_at(alloc, ty, vars, args)?)?;
     }
     Ok(all)
+}
+
+/// The name and the type arguments of a struct or a sum.
+pub fn name_of(a: &Ty) -> Option<(&Name, &[Ty])>
+    ensures { option_map (λ n. (n.0.now, n.1.now)) result ≡ name_of (out-Ty a.now) }
+{
+    match a {
+        Ty::Named(x, args) => Some((x, args.as_slice())),
+        _ => None,
+    }
+}
+
+/// The type arguments of a struct or a sum, or none.
+pub(crate) fn arguments_of(a: &Ty) -> &[Ty]
+    ensures { result.now ≡ arguments_of (out-Ty a.now) }
+{
+    match a {
+        Ty::Named(_, args) => args.as_slice(),
+        _ => &[],
+    }
+}
+
+/// The elements of a buffer.
+pub(crate) fn element_of(a: Ty) -> Option<Ty>
+    ensures { result ≡ element_of (out-Ty a) }
+{
+    match a {
+        Ty::Buf(element) => Some(element.into_inner()),
+        _ => None,
+    }
 }

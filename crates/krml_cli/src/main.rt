@@ -14,6 +14,9 @@ mod scope;
 mod stop;
 #[cfg(test)]
 mod tests;
+
+#[cfg(test)]
+mod typing_tests;
 mod translate;
 
 use krml::krml;

@@ -21,10 +21,11 @@ use Rattle.krml_syntax.specs.declared.tree.Def.{Def}
 use Rattle.krml_ast.specs.Names.{table_named}
 use Rattle.krml_ast.specs.IsType.{erased, int_ty, u32, is_unit_in}
 use Rattle.krml_ast.specs.Typing.{Scope, with_vars, in_loop, in_frame, at, fields_at, IsResult, Matches, HasType, AllHaveType, ArmsHaveType, ItemsLead, CasesHaveType}
+use Rattle.krml_ast.specs.Vars.{are_distinct}
 use Rattle.krml_syntax.proofs.Only.{Only, only_none, only_some, only_then, only_more}
 use Rattle.krml_types.specs.Types.{same_ty, is_flat, is_type}
 use Rattle.krml_types.specs.declared.instance.Instance.{Instance}
-use Rattle.krml_types.specs.Parts.{is_value, are_distinct}
+use Rattle.krml_types.specs.Parts.{is_value}
 use Rattle.krml_types.specs.Instances.{make_at, con_at, call_at}
 use Rattle.krml_types.specs.Scopes.{is_framed, slot_type}
 use Rattle.krml_types.specs.Patterns.{binds}

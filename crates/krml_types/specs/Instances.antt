@@ -7,9 +7,10 @@ use Rattle.krml_syntax.specs.declared.tree.Def.{Def}
 use Rattle.krml_syntax.specs.Read.{◌>>=◌}
 use Rattle.krml_ast.specs.Names.{Composite, Struct, Sum, type_named, con_named, fun_named, field_named}
 use Rattle.krml_ast.specs.IsType.{erased}
+use Rattle.krml_ast.specs.TypeParts.{name_of}
 use Rattle.krml_ast.specs.Typing.{at, fields_at}
 use Rattle.krml_types.specs.declared.instance.Instance.{Instance}
-use Rattle.krml_types.specs.Parts.{demand, name_of, args_of}
+use Rattle.krml_types.specs.Parts.{demand, args_of}
 use Rattle.krml_types.specs.Types.{are_arguments}
 
 -- A struct: its type variables and its fields.

@@ -1,14 +1,11 @@
 -- What is done with scopes.
-use Rattle.std.specs.Prelude.{ℕ, ◌-◌, Bool, true, false, List, drop, length, Option, Some, None, slice_get}
+use Rattle.std.specs.Prelude.{ℕ, Bool, true, false, List, Option, Some, None, slice_get}
 use Rattle.krml_syntax.specs.declared.tree.Ty.{Ty}
 use Rattle.krml_syntax.specs.declared.tree.Slot.{Slot}
 use Rattle.krml_syntax.specs.Read.{◌>>=◌}
 use Rattle.krml_ast.specs.IsType.{erased}
-use Rattle.krml_ast.specs.Typing.{Vars, Scope}
-
--- the oldest n variables
-abbrev pub cut : ℕ → Vars → Vars
-cut n vars = drop (length vars - n) vars
+use Rattle.krml_ast.specs.Typing.{Scope}
+use Rattle.krml_ast.specs.Vars.{cut}
 
 abbrev pub cut_scope : ℕ → Scope → Scope
 cut_scope n g = record { vars = cut n g.vars; frame = g.frame }

@@ -14,7 +14,7 @@ use crate::names::{all_new, are_cons_distinct, are_distinct, are_fields_distinct
 use crate::scope::Scope;
 use crate::types::{erased, is_unit, same_ty};
 use crate::untyped::Untyped;
-use crate::vars::Vars;
+use krml_ast::Vars;
 use krml_syntax::{Con, Def, Expr, Field, IntTy, Ty};
 use krml_trace::{Name, NoMemory};
 use std::alloc::{AllocError, Global};

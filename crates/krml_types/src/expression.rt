@@ -2,8 +2,8 @@ ghost use Rattle.std.specs.Prelude.{◌≡◌, OnOk, map, None, Some};
 ghost use Rattle.krml_syntax.specs.declared.tree.Ty.{out-Ty};
 ghost use Rattle.krml_syntax.specs.declared.tree.Ty.TheVariants.{Buf};
 ghost use Rattle.krml_ast.specs.IsType.{int_ty};
+ghost use Rattle.krml_ast.specs.TypeParts.{element_of};
 ghost use Rattle.krml_types.specs.Gives.{Gives, Leads};
-ghost use Rattle.krml_types.specs.Parts.{element_of};
 ghost use Rattle.krml_types.specs.Types.{same_ty};
 ghost use Rattle.krml_types.specs.Expressions.{has, one_type, each_has, apply_type, are_tests, num_type, joined, may_alloc, items_from, arms_from, cases_from, operation_step, buffer_step, instance_step, turn_type, type_of, item_of, arm_of, case_of, layer_of};
 
@@ -13,7 +13,7 @@ use crate::pattern::bind;
 use crate::scope::Scope;
 use crate::types::{erased, int_ty, is_flat, is_type, is_unit, same_ty};
 use crate::untyped::{Untyped, demand};
-use crate::vars::Vars;
+use krml_ast::Vars;
 use krml_syntax::{Arm, Case, Expr, IntTy, Item, Ty};
 use krml_trace::{Box, Name, Width};
 use std::alloc::Global;

@@ -1,15 +1,15 @@
 ghost use Rattle.std.specs.Prelude.{◌≡◌, IfOk, map, option_map};
 ghost use Rattle.krml_syntax.specs.declared.tree.Ty.{out-Ty};
-ghost use Rattle.krml_ast.specs.Names.{field_named};
 ghost use Rattle.krml_ast.specs.IsType.{erased as erased_of};
 ghost use Rattle.krml_ast.specs.Typing.{at as type_there, fields_at};
 ghost use Rattle.krml_types.specs.Gives.{Gives};
-ghost use Rattle.krml_types.specs.Parts.{name_of, args_of};
+ghost use Rattle.krml_types.specs.Parts.{args_of};
 ghost use Rattle.krml_types.specs.Instances.{serve, named_at, make_at, con_at, call_at, field_type, make_parts, con_parts, part_type, tag_type};
 
 use crate::index::Index;
 use crate::types::{are_arguments, at, erased};
 use crate::untyped::{Untyped, demand};
+use krml_ast::{field_named, name_of};
 use krml_syntax::{Field, Ty};
 use krml_trace::{Name, NoMemory, Seq};
 use std::alloc::Global;
@@ -129,16 +129,6 @@ pub fn call_at(
     Ok(Instance { takes, gives })
 }
 
-/// The name and the type arguments of a struct or a sum.
-fn name_of(a: &Ty) -> Option<(&Name, &[Ty])>
-    ensures { option_map (λ n. (n.0.now, n.1.now)) result ≡ name_of (out-Ty a.now) }
-{
-    match a {
-        Ty::Named(x, args) => Some((x, args.as_slice())),
-        _ => None,
-    }
-}
-
 /// The type arguments of the struct or sum of a name.
 fn args_of<'a>(x: &Name, a: &'a Ty) -> Option<&'a [Ty]>
     ensures { option_map (λ args. args.now) result ≡ args_of x.now (out-Ty a.now) }
@@ -146,19 +136,6 @@ fn args_of<'a>(x: &Name, a: &'a Ty) -> Option<&'a [Ty]>
     match a {
         Ty::Named(y, args) if y.as_bytes() == x.as_bytes() => Some(args.as_slice()),
         _ => None,
-    }
-}
-
-fn field_named<'a>(fields: &'a [Field], x: &Name) -> Option<&'a Ty>
-    ensures { option_map (λ a. a.now) result ≡ field_named fields.now x.now }
-{
-    let [field, rest @ ..] = fields else {
-        return None;
-    };
-    if field.name.as_bytes() == x.as_bytes() {
-        Some(&field.ty)
-    } else {
-        field_named(rest, x)
     }
 }
 

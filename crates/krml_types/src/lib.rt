@@ -17,7 +17,6 @@ mod scope;
 mod typed_file;
 mod types;
 mod untyped;
-mod vars;
 
 pub use check::check_types;
 pub use refusal::TypeRefusal;

@@ -6,7 +6,7 @@ ghost use Rattle.krml_types.specs.Scopes.{cut_scope, with_frame, is_framed, slot
 
 use crate::types::erased;
 use crate::untyped::Untyped;
-use crate::vars::Vars;
+use krml_ast::Vars;
 use krml_syntax::{Slot, Ty};
 use krml_trace::{Name, NoMemory};
 use std::alloc::Global;

@@ -1,5 +1,5 @@
 use Rattle.std.proofs.Common.{length}
-use Rattle.krml_types.proofs.vars.+is_new.Given as goal
+use Rattle.krml_ast.proofs.vars.+is_new.Given as goal
 
 abbrev pub decreases-is_new : goal.decreases-is_new
 decreases-is_new l = length l.items.now

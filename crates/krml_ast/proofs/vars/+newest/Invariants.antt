@@ -1,5 +1,5 @@
 use Rattle.std.proofs.Common.{length}
-use Rattle.krml_types.proofs.vars.+newest.Given as goal
+use Rattle.krml_ast.proofs.vars.+newest.Given as goal
 
 abbrev pub decreases-newest : goal.decreases-newest
 decreases-newest l = length l.items.now

@@ -1,9 +1,8 @@
 ghost use Rattle.std.specs.Prelude.{◌≡◌, ◌∷◌, [], ◌++◌, ◌-◌, IfOk, OnOk, length, reverse};
 ghost use Rattle.krml_ast.specs.Typing.{look};
-ghost use Rattle.krml_types.specs.Parts.{is_new, are_distinct};
-ghost use Rattle.krml_types.specs.Scopes.{cut};
+ghost use Rattle.krml_ast.specs.Vars.{cut, is_new, are_distinct};
 
-use krml_ast::clone_ty;
+use crate::types::clone_ty;
 use krml_syntax::Ty;
 use krml_trace::{Name, NoMemory};
 use std::alloc::Global;
@@ -29,6 +28,7 @@ impl Model for Vars {
 }
 
 impl Vars {
+    /// No variables.
     pub fn new(alloc: Global) -> Vars
         ensures { result ≡ [] }
     {
@@ -37,12 +37,14 @@ impl Vars {
         }
     }
 
+    /// How many there are.
     pub fn len(&self) -> usize
         ensures { result ≡ length self.now }
     {
         self.items.len()
     }
 
+    /// One more variable, the newest. An error is want of memory.
     pub fn push(&mut self, name: Name, ty: Ty) -> Result<(), NoMemory>
         ensures { OnOk result (self.new ≡ (name, ty) ∷ self.old) }
     {
@@ -50,7 +52,7 @@ impl Vars {
         Ok(())
     }
 
-    /// Newer variables.
+    /// Newer variables, over these. An error is want of memory.
     pub fn append(&mut self, newer: Vars) -> Result<(), NoMemory>
         ensures { OnOk result (self.new ≡ newer ++ self.old) }
     {
@@ -66,7 +68,7 @@ impl Vars {
         self.items.truncate(len);
     }
 
-    /// The type of the newest variable of a name.
+    /// The type of the newest variable of a name. An error is want of memory.
     pub fn look(&self, alloc: Global, x: &Name) -> Result<Option<Ty>, NoMemory>
         ensures { IfOk result (λ r. r ≡ look self.now x.now) }
     {

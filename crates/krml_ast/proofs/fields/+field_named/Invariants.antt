@@ -1,5 +1,5 @@
 use Rattle.std.proofs.Common.{length}
-use Rattle.krml_types.proofs.instance.+field_named.Given as goal
+use Rattle.krml_ast.proofs.fields.+field_named.Given as goal
 
 abbrev pub decreases-field_named : goal.decreases-field_named
 decreases-field_named l = length l.fields.now
