@@ -3,8 +3,8 @@
 
 mod evaluate;
 mod event;
-mod file;
 mod fields;
+mod file;
 mod first_places;
 mod found;
 mod kind;
@@ -18,8 +18,8 @@ mod vars;
 
 pub use evaluate::evaluate_source;
 pub use event::SourceEvent;
-pub use file::{BundledFile, CheckedFile, Emitted, HoistedFile, MonoFile, PlainFile};
 pub use fields::field_named;
+pub use file::{BundledFile, CheckedFile, Emitted, HoistedFile, MonoFile, PlainFile};
 pub use found::{ConDef, FunDef, StructDef, SumDef};
 pub use kind::NameKind;
 pub use krml_syntax::{

@@ -20,12 +20,13 @@ use Rattle.krml_ast.specs.IsType.{erased, is_unit_in, IsValue, IsFlat, IsType}
 use Rattle.krml_ast.specs.Typing.{IsResult, HasType}
 use Rattle.krml_ast.specs.WellTyped.{type_name, con_names, table_name, fun_name, entry_name, AreNew, names_of, IsOutside, IsAnswer, WellTyped}
 use Rattle.krml_syntax.proofs.Only.{Only}
-use Rattle.krml_types.specs.declared.kind.NameKind.{NameKind}
-use Rattle.krml_types.specs.declared.kind.NameKind.TheVariants as n
-use Rattle.krml_types.specs.Types.{is_flat, is_among, is_type_by, are_arguments_by}
+use Rattle.krml_ast.specs.declared.kind.NameKind.{NameKind}
+use Rattle.krml_ast.specs.declared.kind.NameKind.TheVariants as n
+use Rattle.krml_types.specs.Types.{is_flat, is_type_by, are_arguments_by}
 use Rattle.krml_types.specs.Parts.{is_value}
 use Rattle.krml_types.specs.Expressions.{is_result, type_of}
-use Rattle.krml_types.specs.Definitions.{is_fresh, distinct_names, names_in, is_given, is_new, all_new, cons_of, are_fields, are_cons, all_fit, body_scope, is_of, is_body, is_int_in, is_outside_in, are_outside, is_answer_in, no_vars, is_entry, fun_ok, well_typed}
+use Rattle.krml_ast.specs.Places.{is_among, cons_of, names_in}
+use Rattle.krml_types.specs.Definitions.{is_fresh, distinct_names, is_given, is_new, all_new, are_fields, are_cons, all_fit, body_scope, is_of, is_body, is_int_in, is_outside_in, are_outside, is_answer_in, no_vars, is_entry, fun_ok, well_typed}
 use Rattle.krml_types.proofs.Parts.{value_is, value_again, below, below_again}
 use Rattle.krml_types.proofs.Decided.{same_decides, flat_decides, type_by_decides, among_decides_name, known}
 use Rattle.krml_types.proofs.Expressions.{type_only, type_again}

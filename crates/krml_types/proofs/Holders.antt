@@ -1,5 +1,5 @@
 -- The structs that are set in the end are those that hold buffers.
-use Rattle.std.proofs.Common.{◌≡◌, ℕ, zero, suc, ◌+◌, ◌-◌, ◌<◌, ◌≤◌, Bool, true, false, ◌||◌, if◌then◌else◌, List, [], ◌∷◌, ◌++◌, map, length, slice_get, drop, ◌⊎◌, inl, inr, Some, None, refl, sym, ap, ◌∙◌, subst, arith, append_assoc, append-nil}
+use Rattle.std.proofs.Common.{◌≡◌, ℕ, zero, suc, ◌+◌, ◌-◌, ◌<◌, ◌≤◌, Bool, true, false, ◌||◌, if◌then◌else◌, List, [], ◌∷◌, ◌++◌, map, length, slice_get, drop, ◌⊎◌, inl, inr, Option, Some, None, option_map, refl, sym, ap, ◌∙◌, subst, arith, append_assoc}
 use Rattle.std.specs.Bool.{Decides}
 use Rattle.std.specs.List.{Contains}
 use Rattle.std.specs.Str.{bytes_eq}
@@ -10,9 +10,14 @@ use Rattle.krml_syntax.specs.declared.tree.Ty.TheVariants as t
 use Rattle.krml_syntax.specs.declared.tree.Field.{Field}
 use Rattle.krml_syntax.specs.declared.tree.Def.{Def}
 use Rattle.krml_syntax.specs.declared.tree.Def.TheVariants as d
-use Rattle.krml_ast.specs.Names.{Struct, Sum, type_named}
+use Rattle.krml_syntax.specs.Read.{◌>>=◌}
+use Rattle.krml_ast.specs.Names.{Struct, Sum, type_named, struct_of, struct_named}
 use Rattle.krml_ast.specs.IsType.{HoldsBuffer}
-use Rattle.krml_types.specs.Holds.{is_set, holds_in, holds_by, any_holds, def_holds, set_more, place_from, at_place, part_in, parts_of, parts_in, or_false, part_holds, any_part, round, rounds, same_bool, same_table, none_set, holders}
+use Rattle.krml_ast.specs.declared.kind.NameKind.TheVariants as k
+use Rattle.krml_ast.specs.Places.{place_of}
+use Rattle.krml_types.specs.declared.part.Part.{Part}
+use Rattle.krml_types.specs.declared.part.Part.TheVariants as part
+use Rattle.krml_types.specs.Holds.{is_set, holds_in, holds_by, any_holds, def_holds, set_more, struct_place, at_place, part_in, parts_of, parts_in, or_false, part_holds, any_part, round, rounds, same_bool, same_table, none_set, holders, swept}
 
 -- ---- rounds come to an end
 
@@ -154,72 +159,68 @@ no_table (d.Entry name) ds x = refl
 
 -- ---- rounds by places
 
-past : (table : List Bool) (k : ℕ) → length table ≤ k → slice_get table k ≡ None
-past [] k l = refl
-past (b ∷ table) zero l = absurd (omega (arith, l))
-past (b ∷ table) (suc k) l = past table k (omega (arith, l))
+-- a place in one definition more
+on_one : (b : Bool) (table : List Bool) (o : Option ℕ) → part_holds (b ∷ table) (at_place (option_map suc o)) ≡ part_holds table (at_place o)
+on_one b table (Some j) = refl
+on_one b table None = refl
 
-behind : (front : List Bool) (b : Bool) (table : List Bool) → slice_get (front ++ b ∷ table) (length front) ≡ Some b
-behind [] b table = refl
-behind (c ∷ front) b table = behind front b table
+no_more : (o : Option ℕ) → part_holds [] (at_place o) ≡ false
+no_more (Some j) = refl
+no_more None = refl
 
-longer_by : (front : List Bool) (b : Bool) → length (front ++ b ∷ []) ≡ length front + 1
-longer_by [] b = refl
-longer_by (c ∷ front) b = let h = longer_by front b in omega (arith, h)
+one_later : {A : Type 0} (o : Option A) (p : Option ℕ) → option_map suc (o >>= λ a. p) ≡ (o >>= λ a. option_map suc p)
+one_later (Some a) p = refl
+one_later None p = refl
 
--- at a place past the table nothing is set
-none_at : (table : List Bool) (defs : List Def) (k : ℕ) (x : List ℕ) → length table ≤ k → part_holds table (at_place (place_from defs k x)) ≡ false
-none_at table [] k x l = refl
-none_at table (d.Struct name vars fields ∷ defs) k x l = go (bytes_eq name x) (none_at table defs (k + 1) x (omega (arith, l)))
+-- the place of a struct is the first place of its name
+pub struct_place_is : (defs : List Def) (x : List ℕ) → struct_place defs x ≡ (struct_named defs x >>= λ s. place_of k.Type defs x)
+struct_place_is [] x = refl
+struct_place_is (def ∷ defs) x = by_def def (ap (option_map suc) (struct_place_is defs x) ∙ one_later (struct_named defs x) (place_of k.Type defs x))
   where
-    go : (c : Bool) → part_holds table (at_place (place_from defs (k + 1) x)) ≡ false
-        → part_holds table (at_place (if c then Some k else place_from defs (k + 1) x)) ≡ false
-    go true later = ap or_false (past table k l)
-    go false later = later
-none_at table (d.Sum name vars cons ∷ defs) k x l = go (bytes_eq name x) (none_at table defs (k + 1) x (omega (arith, l)))
-  where
-    go : (c : Bool) → part_holds table (at_place (place_from defs (k + 1) x)) ≡ false
-        → part_holds table (at_place (if c then None else place_from defs (k + 1) x)) ≡ false
-    go true later = refl
-    go false later = later
-none_at table (d.Table name ty nums ∷ defs) k x l = none_at table defs (k + 1) x (omega (arith, l))
-none_at table (d.Fun name vars params result body ∷ defs) k x l = none_at table defs (k + 1) x (omega (arith, l))
-none_at table (d.Entry name ∷ defs) k x l = none_at table defs (k + 1) x (omega (arith, l))
+    by_def : (def : Def) → option_map suc (struct_place defs x) ≡ (struct_named defs x >>= λ s. option_map suc (place_of k.Type defs x))
+        → struct_place (def ∷ defs) x ≡ (struct_named (def ∷ defs) x >>= λ s. place_of k.Type (def ∷ defs) x)
+    by_def (d.Struct name vars fields) later = go (bytes_eq name x)
+      where
+        go : (c : Bool) → (if c then Some 0 else option_map suc (struct_place defs x))
+            ≡ (((if c then Some (Struct vars fields) else type_named defs x) >>= struct_of) >>= λ s. if (c || false) then Some 0 else option_map suc (place_of k.Type defs x))
+        go true = refl
+        go false = later
+    by_def (d.Sum name vars cons) later = go (bytes_eq name x)
+      where
+        go : (c : Bool) → (if c then None else option_map suc (struct_place defs x))
+            ≡ (((if c then Some (Sum vars cons) else type_named defs x) >>= struct_of) >>= λ s. if (c || false) then Some 0 else option_map suc (place_of k.Type defs x))
+        go true = refl
+        go false = later
+    by_def (d.Table name ty nums) later = later
+    by_def (d.Fun name vars params result body) later = later
+    by_def (d.Entry name) later = later
 
 -- what is set at a name's place is what is set by its name
-abbrev AtPlace : List Def → List Bool → List Bool → List ℕ → Type 0
-AtPlace defs front table x = part_holds (front ++ table) (at_place (place_from defs (length front) x)) ≡ is_set defs table x
+abbrev AtPlace : List Def → List Bool → List ℕ → Type 0
+AtPlace defs table x = part_holds table (at_place (struct_place defs x)) ≡ is_set defs table x
 
-step : (defs : List Def) (front : List Bool) (b : Bool) (table : List Bool) (x : List ℕ) → AtPlace defs (front ++ b ∷ []) table x
-    → part_holds (front ++ b ∷ table) (at_place (place_from defs (length front + 1) x)) ≡ is_set defs table x
-step defs front b table x h =
-    ap (λ z. part_holds z (at_place (place_from defs (length front + 1) x))) (sym (append_assoc front (b ∷ []) table))
-    ∙ ap (λ k. part_holds ((front ++ b ∷ []) ++ table) (at_place (place_from defs k x))) (sym (longer_by front b)) ∙ h
-
-place_is : (defs : List Def) (front table : List Bool) (x : List ℕ) → AtPlace defs front table x
-place_is [] front table x = refl
-place_is (def ∷ defs) front [] x =
-    ap (λ z. part_holds z (at_place (place_from (def ∷ defs) (length front) x))) (append-nil front)
-    ∙ none_at front (def ∷ defs) (length front) x (omega arith) ∙ sym (no_table def defs x)
-place_is (d.Struct name vars fields ∷ defs) front (b ∷ table) x = go (bytes_eq name x) (step defs front b table x (place_is defs (front ++ b ∷ []) table x))
+place_is : (defs : List Def) (table : List Bool) (x : List ℕ) → AtPlace defs table x
+place_is [] table x = refl
+place_is (def ∷ defs) [] x = no_more (struct_place (def ∷ defs) x) ∙ sym (no_table def defs x)
+place_is (d.Struct name vars fields ∷ defs) (b ∷ table) x = go (bytes_eq name x) (on_one b table (struct_place defs x) ∙ place_is defs table x)
   where
-    go : (c : Bool) → part_holds (front ++ b ∷ table) (at_place (place_from defs (length front + 1) x)) ≡ is_set defs table x
-        → part_holds (front ++ b ∷ table) (at_place (if c then Some (length front) else place_from defs (length front + 1) x)) ≡ (if c then b else is_set defs table x)
-    go true later = ap or_false (behind front b table)
-    go false later = later
-place_is (d.Sum name vars cons ∷ defs) front (b ∷ table) x = go (bytes_eq name x) (step defs front b table x (place_is defs (front ++ b ∷ []) table x))
-  where
-    go : (c : Bool) → part_holds (front ++ b ∷ table) (at_place (place_from defs (length front + 1) x)) ≡ is_set defs table x
-        → part_holds (front ++ b ∷ table) (at_place (if c then None else place_from defs (length front + 1) x)) ≡ (if c then false else is_set defs table x)
+    go : (c : Bool) → part_holds (b ∷ table) (at_place (option_map suc (struct_place defs x))) ≡ is_set defs table x
+        → part_holds (b ∷ table) (at_place (if c then Some 0 else option_map suc (struct_place defs x))) ≡ (if c then b else is_set defs table x)
     go true later = refl
     go false later = later
-place_is (d.Table name ty nums ∷ defs) front (b ∷ table) x = step defs front b table x (place_is defs (front ++ b ∷ []) table x)
-place_is (d.Fun name vars params result body ∷ defs) front (b ∷ table) x = step defs front b table x (place_is defs (front ++ b ∷ []) table x)
-place_is (d.Entry name ∷ defs) front (b ∷ table) x = step defs front b table x (place_is defs (front ++ b ∷ []) table x)
+place_is (d.Sum name vars cons ∷ defs) (b ∷ table) x = go (bytes_eq name x) (on_one b table (struct_place defs x) ∙ place_is defs table x)
+  where
+    go : (c : Bool) → part_holds (b ∷ table) (at_place (option_map suc (struct_place defs x))) ≡ is_set defs table x
+        → part_holds (b ∷ table) (at_place (if c then None else option_map suc (struct_place defs x))) ≡ (if c then false else is_set defs table x)
+    go true later = refl
+    go false later = later
+place_is (d.Table name ty nums ∷ defs) (b ∷ table) x = on_one b table (struct_place defs x) ∙ place_is defs table x
+place_is (d.Fun name vars params result body ∷ defs) (b ∷ table) x = on_one b table (struct_place defs x) ∙ place_is defs table x
+place_is (d.Entry name ∷ defs) (b ∷ table) x = on_one b table (struct_place defs x) ∙ place_is defs table x
 
-part_is : (defs : List Def) (table : List Bool) (o : Ty-F Ty) → part_holds table (part_in defs o) ≡ holds_in defs table o
+pub part_is : (defs : List Def) (table : List Bool) (o : Ty-F Ty) → part_holds table (part_in defs o) ≡ holds_in defs table o
 part_is defs table (Ty-F.Buf a) = refl
-part_is defs table (Ty-F.Named x args) = place_is defs [] table x
+part_is defs table (Ty-F.Named x args) = place_is defs table x
 part_is defs table Ty-F.Bool = refl
 part_is defs table Ty-F.Unit = refl
 part_is defs table (Ty-F.Int i) = refl
@@ -244,6 +245,144 @@ more_is defs table (def ∷ ds) (b ∷ ts) = rw (def_is defs table def, more_is 
 
 pub round_is : (defs : List Def) (table : List Bool) → set_more (any_part table) (map (parts_in defs) defs) table ≡ round defs table
 round_is defs table = more_is defs table defs table
+
+-- ---- what is set from the first to the last is set in the end
+
+-- whether the table is set at a place
+abbrev set_at : List Bool → ℕ → Bool
+set_at table k = or_false (slice_get table k)
+
+-- what is set in one table is set in the other
+abbrev Within : List Bool → List Bool → Type 0
+Within table other = (k : ℕ) → set_at table k ≡ true → set_at other k ≡ true
+
+part_within : (table other : List Bool) → Within table other → (p : Part) → part_holds table p ≡ true → part_holds other p ≡ true
+part_within table other w part.Buffer h = refl
+part_within table other w (part.At k) h = w k h
+part_within table other w part.Nothing h = h
+
+or_first : (b c : Bool) → b ≡ true → (b || c) ≡ true
+or_first true c h = refl
+or_first false c h = cc
+
+or_second : (b c : Bool) → c ≡ true → (b || c) ≡ true
+or_second true c h = refl
+or_second false c h = h
+
+any_within : (table other : List Bool) → Within table other → (parts : List Part) → any_part table parts ≡ true → any_part other parts ≡ true
+any_within table other w [] h = h
+any_within table other w (p ∷ parts) h = go (either (part_holds table p) (any_part table parts) h) (any_within table other w parts)
+  where
+    go : (part_holds table p ≡ true) ⊎ (any_part table parts ≡ true) → (any_part table parts ≡ true → any_part other parts ≡ true) → (part_holds other p || any_part other parts) ≡ true
+    go (inl k) later = or_first (part_holds other p) (any_part other parts) (part_within table other w p k)
+    go (inr k) later = or_second (part_holds other p) (any_part other parts) (later k)
+
+-- more is set from more
+more_within : (f g : List Part → Bool) (all : List (List Part)) (table other : List Bool) → length all ≡ length other → ((parts : List Part) → f parts ≡ true → g parts ≡ true)
+    → Within table other → Within (set_more f all table) (set_more g all other)
+more_within f g [] table other q fg w k h = h
+more_within f g (parts ∷ all) [] other q fg w k h = absurd (cc)
+more_within f g (parts ∷ all) (b ∷ table) [] q fg w k h = absurd (omega (arith, q))
+more_within f g (parts ∷ all) (b ∷ table) (c ∷ other) q fg w zero h = go (either b (f parts) h)
+  where
+    go : (b ≡ true) ⊎ (f parts ≡ true) → (c || g parts) ≡ true
+    go (inl k) = or_first c (g parts) (w 0 k)
+    go (inr k) = or_second c (g parts) (fg parts k)
+more_within f g (parts ∷ all) (b ∷ table) (c ∷ other) q fg w (suc k) h = more_within f g all table other (omega (arith, q)) fg (λ j. w (suc j)) k h
+
+length_map : {A B : Type 0} (f : A → B) (xs : List A) → length (map f xs) ≡ length xs
+length_map f [] = refl
+length_map f (x ∷ xs) = ap suc (length_map f xs)
+
+round_within : (defs : List Def) (table other : List Bool) → length other ≡ length defs → Within table other → Within (round defs table) (round defs other)
+round_within defs table other q w =
+    let m = more_within (any_part table) (any_part other) (map (parts_in defs) defs) table other (length_map (parts_in defs) defs ∙ sym q) (any_within table other w) w in
+    subst (λ z. Within z (round defs other)) (round_is defs table) (subst (λ z. Within (set_more (any_part table) (map (parts_in defs) defs) table) z) (round_is defs other) m)
+
+rounds_within : (n : ℕ) (defs : List Def) (table other : List Bool) → length other ≡ length defs → Within table other → Within (rounds n defs table) (rounds n defs other)
+rounds_within zero defs table other q w = w
+rounds_within (suc n) defs table other q w = rounds_within n defs (round defs table) (round defs other) (length_more (def_holds defs other) defs other q) (round_within defs table other q w)
+
+same_set : (table other : List Bool) → length table ≡ length other → Within table other → Within other table → table ≡ other
+same_set [] [] q w v = refl
+same_set [] (c ∷ other) q w v = absurd (omega (arith, q))
+same_set (b ∷ table) [] q w v = absurd (omega (arith, q))
+same_set (b ∷ table) (c ∷ other) q w v =
+    ap (λ z. z ∷ table) (go b c (w 0) (v 0)) ∙ ap (λ z. c ∷ z) (same_set table other (omega (arith, q)) (λ k. w (suc k)) (λ k. v (suc k)))
+  where
+    go : (b c : Bool) → (b ≡ true → c ≡ true) → (c ≡ true → b ≡ true) → b ≡ c
+    go true c h k = sym (h refl)
+    go false true h k = k refl
+    go false false h k = refl
+
+none_within : (defs : List Def) (table : List Bool) → Within (none_set defs) table
+none_within [] table k h = absurd (cc)
+none_within (def ∷ defs) table zero h = absurd (cc)
+none_within (def ∷ defs) [] (suc k) h = none_within defs [] k h
+none_within (def ∷ defs) (b ∷ table) (suc k) h = none_within defs table k h
+
+longer_by : (front : List Bool) (b : Bool) → length (front ++ b ∷ []) ≡ length front + 1
+longer_by [] b = refl
+longer_by (c ∷ front) b = let h = longer_by front b in omega (arith, h)
+
+length_swept : (all : List (List Part)) (table : List Bool) → length (swept all table) ≡ length table + length all
+length_swept [] table = omega arith
+length_swept (parts ∷ all) table =
+    let h = length_swept all (table ++ any_part table parts ∷ []) in
+    let m = longer_by table (any_part table parts) in
+    omega (arith, h, m)
+
+set_front : (done rest : List Bool) (k : ℕ) → set_at done k ≡ true → set_at (done ++ rest) k ≡ true
+set_front [] rest k h = absurd (cc)
+set_front (c ∷ done) rest zero h = h
+set_front (c ∷ done) rest (suc k) h = set_front done rest k h
+
+push_within : (table done : List Bool) (b c : Bool) → (b ≡ true → c ≡ true) → length table ≡ length done → Within table done → Within (table ++ b ∷ []) (done ++ c ∷ [])
+push_within [] [] b c h q w zero k = h k
+push_within [] [] b c h q w (suc j) k = k
+push_within (x ∷ table) (y ∷ done) b c h q w zero k = w 0 k
+push_within (x ∷ table) (y ∷ done) b c h q w (suc j) k = push_within table done b c h (omega (arith, q)) (λ i. w (suc i)) j k
+push_within [] (y ∷ done) b c h q w j k = absurd (omega (arith, q))
+push_within (x ∷ table) [] b c h q w j k = absurd (omega (arith, q))
+
+list_head : (b c : Bool) (bs cs : List Bool) → b ∷ bs ≡ c ∷ cs → (b ≡ c) × (bs ≡ cs)
+list_head b c bs cs e = (cc, cc)
+
+was_set : (b c : Bool) → (b || c) ≡ b → c ≡ true → b ≡ true
+was_set true c e h = refl
+was_set false c e h = sym e ∙ h
+
+-- in a table of which a round sets no more
+module _ (end : List Bool) where
+  swept_within : (all : List (List Part)) (table done rest : List Bool) → done ++ rest ≡ end → set_more (any_part end) all rest ≡ rest → length all ≡ length rest
+      → length table ≡ length done → Within table done → Within (swept all table) end
+  swept_within [] table done rest e stay l q w = subst (Within table) e (λ k h. set_front done rest k (w k h))
+  swept_within (parts ∷ all) table done [] e stay l q w = absurd (omega (arith, l))
+  swept_within (parts ∷ all) table done (c ∷ rest) e stay l q w =
+      let both = list_head (c || any_part end parts) c (set_more (any_part end) all rest) rest stay in
+      let whole : Within table end = subst (Within table) e (λ k h. set_front done (c ∷ rest) k (w k h)) in
+      let more : Within (table ++ any_part table parts ∷ []) (done ++ c ∷ []) =
+      push_within table done (any_part table parts) c (λ h. was_set c (any_part end parts) both.0 (any_within table end whole parts h)) q w in
+      swept_within all (table ++ any_part table parts ∷ []) (done ++ c ∷ []) rest (append_assoc done (c ∷ []) rest ∙ e) both.1 (omega (arith, l))
+      (let m = longer_by table (any_part table parts) in let n = longer_by done c in omega (arith, m, n, q)) more
+
+holders_within : (defs : List Def) (table : List Bool) → length table ≡ length defs → Within (holders defs) (rounds (length defs) defs table)
+unfolding holders
+holders_within defs table q = rounds_within (length defs) defs (none_set defs) table q (none_within defs table)
+
+-- rounds that begin so come to the same end
+pub rounds_swept : (defs : List Def) → rounds (length defs) defs (swept (map (parts_in defs) defs) []) ≡ holders defs
+rounds_swept defs =
+    let all : List (List Part) = map (parts_in defs) defs in
+    let n : ℕ = length defs in
+    let long : length (swept all []) ≡ length defs = let a = length_swept all [] in let b = length_map (parts_in defs) defs in omega (arith, a, b) in
+    let stay : set_more (any_part (holders defs)) all (holders defs) ≡ holders defs = round_is defs (holders defs) ∙ closed defs in
+    let begun : Within (swept all []) (holders defs) =
+    swept_within (holders defs) all [] [] (holders defs) refl stay (length_map (parts_in defs) defs ∙ sym (length_holders defs)) refl (λ k h. h) in
+    let less : Within (rounds n defs (swept all [])) (holders defs) =
+    subst (Within (rounds n defs (swept all []))) (stays n defs (holders defs) (closed defs)) (rounds_within n defs (swept all []) (holders defs) (length_holders defs) begun) in
+    let more : Within (holders defs) (rounds n defs (swept all [])) = holders_within defs (swept all []) long in
+    same_set (rounds n defs (swept all [])) (holders defs) (length_rounds n defs (swept all []) long ∙ sym (length_holders defs)) less more
 
 module _ (defs : List Def) where
   abbrev Sound : List Bool → Type 0

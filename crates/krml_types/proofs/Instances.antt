@@ -11,14 +11,14 @@ use Rattle.krml_syntax.specs.declared.tree.Pat.TheVariants as p
 use Rattle.krml_syntax.specs.declared.tree.Expr.{Expr}
 use Rattle.krml_syntax.specs.declared.tree.Expr.TheVariants as e
 use Rattle.krml_syntax.specs.declared.tree.Def.{Def}
-use Rattle.krml_ast.specs.Names.{Composite, Struct, Sum, Constructor, Signature, type_named, con_named, fun_named, field_named}
+use Rattle.krml_ast.specs.Names.{Composite, Struct, Sum, Constructor, Signature, type_named, struct_of, struct_named, con_named, fun_named, field_named}
 use Rattle.krml_ast.specs.IsType.{AreArguments}
 use Rattle.krml_ast.specs.TypeParts.{name_of}
 use Rattle.krml_ast.specs.Typing.{Vars, Scope, at, fields_at, Matches, MatchAll, HasType, AllHaveType}
 use Rattle.krml_syntax.proofs.Only.{Only, only_none, only_some, only_then}
 use Rattle.krml_types.specs.Types.{are_arguments}
 use Rattle.krml_types.specs.Parts.{args_of}
-use Rattle.krml_types.specs.Instances.{struct_of, struct_named, serve, named_at, make_at, con_at, call_at, field_type, make_parts, con_parts, part_type, tag_type}
+use Rattle.krml_types.specs.Instances.{serve, named_at, make_at, con_at, call_at, field_type, make_parts, con_parts, part_type, tag_type}
 use Rattle.krml_types.proofs.Parts.{only_demand, only_at, only_name, only_args, args_again}
 
 module _ (defs : List Def) where

@@ -13,10 +13,11 @@ use Rattle.krml_syntax.specs.declared.tree.Def.TheVariants as d
 use Rattle.krml_ast.specs.Names.{Signature, fun_named, type_named}
 use Rattle.krml_ast.specs.IsType.{erased}
 use Rattle.krml_ast.specs.Typing.{Vars, Scope}
-use Rattle.krml_ast.specs.WellTyped.{type_name, con_names, table_name, fun_name, entry_name, names_of}
-use Rattle.krml_types.specs.declared.kind.NameKind.{NameKind}
-use Rattle.krml_types.specs.declared.kind.NameKind.TheVariants as k
-use Rattle.krml_types.specs.Types.{same_ty, is_flat, is_among, is_type_by, are_arguments_by}
+use Rattle.krml_ast.specs.WellTyped.{names_of}
+use Rattle.krml_ast.specs.declared.kind.NameKind.{NameKind}
+use Rattle.krml_ast.specs.declared.kind.NameKind.TheVariants as k
+use Rattle.krml_ast.specs.Places.{is_among, cons_of, names_in}
+use Rattle.krml_types.specs.Types.{same_ty, is_flat, is_type_by, are_arguments_by}
 use Rattle.krml_types.specs.Parts.{is_value}
 use Rattle.krml_types.specs.Expressions.{is_result, type_of}
 
@@ -31,14 +32,6 @@ abbrev pub distinct_names : List (List ℕ) → Bool
 distinct_names [] = true
 distinct_names (x ∷ names) = is_fresh names x && distinct_names names
 
--- the kinds of names
-abbrev pub names_in : NameKind → Def → List (List ℕ)
-names_in k.Type = type_name
-names_in k.Con = con_names
-names_in k.Table = table_name
-names_in k.Fun = fun_name
-names_in k.Entry = entry_name
-
 -- whether a definition gives a name
 abbrev pub is_given : (Def → List (List ℕ)) → List Def → List ℕ → Bool
 is_given names [] x = false
@@ -50,9 +43,6 @@ is_new kind before x = not (is_given (names_in kind) before x)
 abbrev pub all_new : NameKind → List Def → List (List ℕ) → Bool
 all_new kind before [] = true
 all_new kind before (x ∷ more) = is_new kind before x && all_new kind before more
-
-abbrev pub cons_of : List Con → List (List ℕ)
-cons_of cons = map (λ c. c.name) cons
 
 -- ---- types
 

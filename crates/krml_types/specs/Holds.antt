@@ -1,5 +1,5 @@
 -- Which structs of a file hold buffers, computed in rounds over a table with a truth value for each definition.
-use Rattle.std.specs.Prelude.{ℕ, zero, suc, ◌+◌, Bool, true, false, not, ◌&&◌, ◌||◌, if◌then◌else◌, List, [], ◌∷◌, map, length, slice_get, Option, Some, None}
+use Rattle.std.specs.Prelude.{ℕ, zero, suc, Bool, true, false, not, ◌&&◌, ◌||◌, if◌then◌else◌, List, [], ◌∷◌, ◌++◌, map, length, slice_get, Option, Some, None, option_map}
 use Rattle.std.specs.Str.{bytes_eq}
 use Rattle.krml_syntax.specs.declared.tree.Ty.{Ty, out-Ty}
 use Rattle.krml_syntax.specs.declared.tree.Ty.TheOpen.{Ty-F}
@@ -64,20 +64,21 @@ holders defs = rounds (length defs) defs (none_set defs)
 
 -- ---- by places, so that a round looks no name up
 
--- what a field tells: it is a buffer, it is of the struct of a place, or neither
-abbrev pub place_from : List Def → ℕ → List ℕ → Option ℕ
-place_from (d.Struct name vars fields ∷ defs) k x = if bytes_eq name x then Some k else place_from defs (k + 1) x
-place_from (d.Sum name vars cons ∷ defs) k x = if bytes_eq name x then None else place_from defs (k + 1) x
-place_from (def ∷ defs) k x = place_from defs (k + 1) x
-place_from [] k x = None
+-- the place of the first struct of a name, where no sum of that name stands before it
+abbrev pub struct_place : List Def → List ℕ → Option ℕ
+struct_place (d.Struct name vars fields ∷ defs) x = if bytes_eq name x then Some 0 else option_map suc (struct_place defs x)
+struct_place (d.Sum name vars cons ∷ defs) x = if bytes_eq name x then None else option_map suc (struct_place defs x)
+struct_place (def ∷ defs) x = option_map suc (struct_place defs x)
+struct_place [] x = None
 
+-- what a field tells: it is a buffer, it is of the struct of a place, or neither
 abbrev pub at_place : Option ℕ → Part
 at_place (Some k) = part.At k
 at_place None = part.Nothing
 
 abbrev pub part_in : List Def → Ty-F Ty → Part
 part_in defs (Ty-F.Buf a) = part.Buffer
-part_in defs (Ty-F.Named x args) = at_place (place_from defs 0 x)
+part_in defs (Ty-F.Named x args) = at_place (struct_place defs x)
 part_in defs _ = part.Nothing
 
 abbrev pub parts_of : List Def → List Field → List Part
@@ -99,3 +100,8 @@ part_holds table part.Nothing = false
 abbrev pub any_part : List Bool → List Part → Bool
 any_part table [] = false
 any_part table (p ∷ parts) = part_holds table p || any_part table parts
+
+-- from the first to the last, each by what the ones before it are
+abbrev pub swept : List (List Part) → List Bool → List Bool
+swept [] table = table
+swept (parts ∷ all) table = swept all (table ++ any_part table parts ∷ [])

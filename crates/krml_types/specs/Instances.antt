@@ -1,25 +1,16 @@
 -- Structs, constructors and functions at type arguments.
-use Rattle.std.specs.Prelude.{ℕ, ◌==◌, Bool, ◌&&◌, List, map, length, Option, Some, None, slice_get}
+use Rattle.std.specs.Prelude.{ℕ, ◌==◌, Bool, ◌&&◌, List, map, length, Option, Some, slice_get}
 use Rattle.krml_syntax.specs.declared.tree.Ty.{Ty, out-Ty}
 use Rattle.krml_syntax.specs.declared.tree.Ty.TheVariants as t
-use Rattle.krml_syntax.specs.declared.tree.Field.{Field}
 use Rattle.krml_syntax.specs.declared.tree.Def.{Def}
 use Rattle.krml_syntax.specs.Read.{◌>>=◌}
-use Rattle.krml_ast.specs.Names.{Composite, Struct, Sum, type_named, con_named, fun_named, field_named}
+use Rattle.krml_ast.specs.Names.{struct_named, con_named, fun_named, field_named}
 use Rattle.krml_ast.specs.IsType.{erased}
 use Rattle.krml_ast.specs.TypeParts.{name_of}
 use Rattle.krml_ast.specs.Typing.{at, fields_at}
 use Rattle.krml_types.specs.declared.instance.Instance.{Instance}
 use Rattle.krml_types.specs.Parts.{demand, args_of}
 use Rattle.krml_types.specs.Types.{are_arguments}
-
--- A struct: its type variables and its fields.
-abbrev pub struct_of : Composite → Option (List (List ℕ) × List Field)
-struct_of (Struct vars fields) = Some (vars, fields)
-struct_of (Sum vars cons) = None
-
-abbrev pub struct_named : List Def → List ℕ → Option (List (List ℕ) × List Field)
-struct_named defs x = type_named defs x >>= struct_of
 
 -- whether type arguments serve for type variables
 abbrev pub serve : List Def → List (List ℕ) → List (List ℕ) → List Ty → Bool

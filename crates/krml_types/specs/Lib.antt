@@ -3,7 +3,6 @@ pub mod Definitions
 pub mod Expressions
 pub mod Gives
 pub mod Holds
-pub mod Index
 pub mod Instances
 pub mod Parts
 pub mod Patterns

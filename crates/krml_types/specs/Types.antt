@@ -1,5 +1,5 @@
 -- Whether types are the same, flat or well formed, computed.
-use Rattle.std.specs.Prelude.{ℕ, ◌==◌, Bool, true, false, not, ◌&&◌, ◌||◌, List, [], ◌∷◌, map, length, Option, Some, None}
+use Rattle.std.specs.Prelude.{ℕ, ◌==◌, Bool, true, false, not, ◌&&◌, List, [], ◌∷◌, map, length, Option, Some, None}
 use Rattle.std.specs.Str.{bytes_eq}
 use Rattle.krml_trace.specs.Width.{same_width}
 use Rattle.krml_syntax.specs.declared.tree.IntTy.{IntTy}
@@ -7,8 +7,8 @@ use Rattle.krml_syntax.specs.declared.tree.Ty.{Ty, out-Ty}
 use Rattle.krml_syntax.specs.declared.tree.Ty.TheOpen.{Ty-F}
 use Rattle.krml_syntax.specs.declared.tree.Ty.TheFolds.{fold-Ty, para-Ty}
 use Rattle.krml_syntax.specs.declared.tree.Def.{Def}
-use Rattle.krml_ast.specs.Names.{Composite, type_named}
-use Rattle.krml_ast.specs.IsType.{vars_of}
+use Rattle.krml_ast.specs.Names.{Composite, type_named, vars_of}
+use Rattle.krml_ast.specs.Places.{is_among}
 use Rattle.krml_types.specs.Holds.{same_bool, holds_by, holders}
 use Rattle.krml_types.specs.Parts.{is_value}
 
@@ -44,10 +44,6 @@ unfoldable pub is_flat : List Def → Ty → Bool
 is_flat defs a = is_value a && not (holds_by defs (holders defs) a)
 
 -- ---- well formed
-
-abbrev pub is_among : List (List ℕ) → List ℕ → Bool
-is_among [] x = false
-is_among (v ∷ vars) x = bytes_eq v x || is_among vars x
 
 -- a struct or sum that has so many type variables
 abbrev pub takes : Option Composite → ℕ → Bool

@@ -16,7 +16,7 @@ fn first_fault(alloc: Global, defs: &[Def]) -> Result<Option<usize>, NoMemory>
     let index = Index::new(alloc, defs)?;
     let mut k = 0;
     for def in defs {
-        if !is_well_typed(alloc, &index, &defs[..k], def)? {
+        if !is_well_typed(alloc, &index, k, def)? {
             return Ok(Some(k));
         }
         k += 1;

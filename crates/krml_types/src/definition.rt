@@ -1,40 +1,39 @@
 //! Which definitions are well typed, each behind the definitions before it.
 
-ghost use Rattle.std.specs.Prelude.{◌≡◌, IfOk};
+ghost use Rattle.std.specs.Prelude.{◌≡◌, take, IfOk};
 ghost use Rattle.krml_syntax.specs.declared.tree.Ty.{out-Ty};
 ghost use Rattle.krml_ast.specs.Names.{fun_named};
 ghost use Rattle.krml_types.specs.Expressions.{is_result as is_result_ty};
 ghost use Rattle.krml_types.specs.Definitions.{are_fields, are_cons, all_fit, param_vars, is_body, is_int_in, is_outside_in, are_outside, is_answer_in, is_entry, fun_ok, well_typed};
 
 use crate::expression::Context;
-use crate::formed::{are_arguments_among, is_flat, is_type_among, is_value};
+use crate::formed::{are_arguments_before, is_flat, is_type_before, is_value};
 use crate::index::Index;
-use crate::kind::NameKind;
 use crate::names::{all_new, are_cons_distinct, are_distinct, are_fields_distinct, is_new};
 use crate::scope::Scope;
 use crate::types::{erased, is_unit, same_ty};
 use crate::untyped::Untyped;
-use krml_ast::Vars;
+use krml_ast::{NameKind, Vars};
 use krml_syntax::{Con, Def, Expr, Field, IntTy, Ty};
 use krml_trace::{Name, NoMemory};
 use std::alloc::{AllocError, Global};
 
-fn are_fields(index: &Index<'_>, known: &[Def], tvars: &[Name], fields: &[Field]) -> bool
-    ensures { result ≡ are_fields known.now index.now tvars.now fields.now }
+fn are_fields(index: &Index<'_>, k: usize, tvars: &[Name], fields: &[Field]) -> bool
+    ensures { result ≡ are_fields (take k index.now) index.now tvars.now fields.now }
 {
     for field in fields {
-        if !(is_type_among(index, known, tvars, &field.ty) && is_value(&field.ty)) {
+        if !(is_type_before(index, k, tvars, &field.ty) && is_value(&field.ty)) {
             return false;
         }
     }
     true
 }
 
-fn are_cons(index: &Index<'_>, known: &[Def], tvars: &[Name], cons: &[Con]) -> bool
-    ensures { result ≡ are_cons known.now index.now tvars.now cons.now }
+fn are_cons(index: &Index<'_>, k: usize, tvars: &[Name], cons: &[Con]) -> bool
+    ensures { result ≡ are_cons (take k index.now) index.now tvars.now cons.now }
 {
     for con in cons {
-        if !are_arguments_among(index, known, tvars, con.args.as_slice()) {
+        if !are_arguments_before(index, k, tvars, con.args.as_slice()) {
             return false;
         }
     }
@@ -73,10 +72,10 @@ fn is_result(index: &Index<'_>, a: &Ty) -> bool
 }
 
 /// Whether a function's body has the type of its result.
-fn is_body(
+fn is_body<'a>(
     alloc: Global,
-    index: &Index<'_>,
-    tvars: &[Name],
+    index: &'a Index<'_>,
+    tvars: &'a [Name],
     params: &[Field],
     gives: &Ty,
     body: &Expr,
@@ -115,8 +114,8 @@ fn is_fun(
 {
     let head = are_distinct(tvars)
         && are_fields_distinct(params)
-        && are_fields(index, index.defs(), tvars, params)
-        && is_type_among(index, index.defs(), tvars, gives)
+        && are_fields(index, index.len(), tvars, params)
+        && is_type_before(index, index.len(), tvars, gives)
         && is_result(index, gives);
     if !head {
         return Ok(false);
@@ -169,36 +168,36 @@ fn is_answer(a: &Ty) -> bool
 fn is_entry(index: &Index<'_>, x: &Name) -> bool
     ensures { result ≡ is_entry (fun_named index.now x.now) }
 {
-    match index.fun_named(x) {
+    match index.names().fun_named(x) {
         Some(f) => f.vars.is_empty() && are_outside(f.params) && is_answer(f.result),
         None => false,
     }
 }
 
-/// Whether a definition is well typed behind those before it.
+/// Whether a definition at a place is well typed behind those before it.
 pub fn is_well_typed(
     alloc: Global,
     index: &Index<'_>,
-    before: &[Def],
+    k: usize,
     def: &Def,
 ) -> Result<bool, NoMemory>
-    ensures { IfOk result (λ r. r ≡ well_typed index.now before.now def.now) }
+    ensures { IfOk result (λ r. r ≡ well_typed index.now (take k index.now) def.now) }
 {
     match def {
         Def::Struct { name, vars, fields } => Ok(
-            is_new(NameKind::Type, before, name)
+            is_new(index, NameKind::Type, k, name)
                 && are_distinct(vars.as_slice())
                 && are_fields_distinct(fields.as_slice())
-                && are_fields(index, before, vars.as_slice(), fields.as_slice()),
+                && are_fields(index, k, vars.as_slice(), fields.as_slice()),
         ),
         Def::Sum { name, vars, cons } => Ok(
-            is_new(NameKind::Type, before, name)
-                && (are_cons_distinct(cons.as_slice()) && all_new(before, cons.as_slice()))
+            is_new(index, NameKind::Type, k, name)
+                && (are_cons_distinct(cons.as_slice()) && all_new(index, k, cons.as_slice()))
                 && are_distinct(vars.as_slice())
-                && are_cons(index, before, vars.as_slice(), cons.as_slice()),
+                && are_cons(index, k, vars.as_slice(), cons.as_slice()),
         ),
         Def::Table { name, ty, nums } => {
-            Ok(is_new(NameKind::Table, before, name) && all_fit(*ty, nums.as_slice()))
+            Ok(is_new(index, NameKind::Table, k, name) && all_fit(*ty, nums.as_slice()))
         }
         Def::Fun {
             name,
@@ -207,7 +206,7 @@ pub fn is_well_typed(
             result,
             body,
         } => {
-            if is_new(NameKind::Fun, before, name) {
+            if is_new(index, NameKind::Fun, k, name) {
                 is_fun(
                     alloc,
                     index,
@@ -220,6 +219,6 @@ pub fn is_well_typed(
                 Ok(false)
             }
         }
-        Def::Entry { name } => Ok(is_new(NameKind::Entry, before, name) && is_entry(index, name)),
+        Def::Entry { name } => Ok(is_new(index, NameKind::Entry, k, name) && is_entry(index, name)),
     }
 }

@@ -28,13 +28,13 @@ const U32: IntTy = IntTy {
 const MAX_ELEMENTS: u32 = 65536;
 
 /// What the expressions of a definition are judged by: the definitions of its file, and its type variables.
-pub struct Context<'a> {
+pub struct Context<'a, 'd> {
     pub alloc: Global,
-    pub index: &'a Index<'a>,
+    pub index: &'a Index<'d>,
     pub tvars: &'a [Name],
 }
 
-impl<'a> Context<'a> {
+impl<'a, 'd> Context<'a, 'd> {
     /// The type of an expression in a scope.
     #[cycle(check)]
     pub fn type_of<'s>(&self, scope: &mut Scope<'s>, e: &'s Expr) -> Result<Ty, Untyped>
@@ -122,7 +122,7 @@ impl<'a> Context<'a> {
                 Ok(int_ty(*i))
             }
             Expr::Tab(x, a) => {
-                let i = self.index.table_named(x).ok_or(Untyped::Fault)?;
+                let i = self.index.names().table_named(x).ok_or(Untyped::Fault)?;
                 self.has_int(scope, a.get(), U32)?;
                 Ok(int_ty(i))
             }

@@ -1,13 +1,16 @@
 //! Which types are flat, and which are well formed.
 
-ghost use Rattle.std.specs.Prelude.{◌≡◌};
+ghost use Rattle.std.specs.Prelude.{◌≡◌, take};
 ghost use Rattle.krml_ast.specs.Names.{type_named};
+ghost use Rattle.krml_ast.specs.Places.{is_among};
 ghost use Rattle.krml_types.specs.Parts.{is_value as is_value_ty};
-ghost use Rattle.krml_types.specs.Types.{is_flat, is_among, takes, is_type_by, are_arguments_by, is_type, are_arguments};
+ghost use Rattle.krml_types.specs.Types.{is_flat, takes, is_type_by, are_arguments_by, is_type, are_arguments};
 
 use crate::index::Index;
+use crate::names::is_given;
 use crate::types::is_unit;
-use krml_syntax::{Def, Ty};
+use krml_ast::NameKind;
+use krml_syntax::Ty;
 use krml_trace::Name;
 
 /// Whether a type is one of values.
@@ -36,44 +39,43 @@ fn is_among(vars: &[Name], x: &Name) -> bool
     false
 }
 
-/// Whether the struct or sum of a name has so many type variables.
-fn takes(defs: &[Def], x: &Name, n: usize) -> bool
-    ensures { result ≡ takes (type_named defs.now x.now) n }
+/// Whether the struct or sum of a name stands before a place, and has so many type variables.
+fn takes(index: &Index<'_>, k: usize, x: &Name, n: usize) -> bool
+    ensures { result ≡ takes (type_named (take k index.now) x.now) n }
 {
-    let [def, rest @ ..] = defs else {
+    if !is_given(index, NameKind::Type, k, x) {
         return false;
-    };
-    match def {
-        Def::Struct { name, vars, .. } if name.as_bytes() == x.as_bytes() => n == vars.len(),
-        Def::Sum { name, vars, .. } if name.as_bytes() == x.as_bytes() => n == vars.len(),
-        _ => takes(rest, x, n),
+    }
+    match index.names().vars_named(x) {
+        Some(vars) => n == vars.len(),
+        None => false,
     }
 }
 
-/// Whether a type is well formed where its names mean those of `known`, and buffers are held as in the whole file.
+/// Whether a type is well formed where its names mean those before a place, and buffers are held as in the whole file.
 #[cycle(formed)]
-pub fn is_type_among(index: &Index<'_>, known: &[Def], tvars: &[Name], a: &Ty) -> bool
-    ensures { result ≡ is_type_by (type_named known.now) (is_flat index.now) tvars.now a.now }
+pub fn is_type_before(index: &Index<'_>, k: usize, tvars: &[Name], a: &Ty) -> bool
+    ensures { result ≡ is_type_by (type_named (take k index.now)) (is_flat index.now) tvars.now a.now }
 {
     match a {
         Ty::Bool => true,
         Ty::Unit => true,
         Ty::Int(_) => true,
-        Ty::Buf(b) => is_type_among(index, known, tvars, b.get()) && is_flat(index, b.get()),
+        Ty::Buf(b) => is_type_before(index, k, tvars, b.get()) && is_flat(index, b.get()),
         Ty::Var(x) => is_among(tvars, x),
         Ty::Named(x, args) => {
-            takes(known, x, args.len()) && are_arguments_among(index, known, tvars, args.as_slice())
+            takes(index, k, x, args.len()) && are_arguments_before(index, k, tvars, args.as_slice())
         }
     }
 }
 
 /// Whether types are well formed and flat, as type arguments are.
 #[cycle(formed)]
-pub fn are_arguments_among(index: &Index<'_>, known: &[Def], tvars: &[Name], args: &[Ty]) -> bool
-    ensures { result ≡ are_arguments_by (type_named known.now) (is_flat index.now) tvars.now args.now }
+pub fn are_arguments_before(index: &Index<'_>, k: usize, tvars: &[Name], args: &[Ty]) -> bool
+    ensures { result ≡ are_arguments_by (type_named (take k index.now)) (is_flat index.now) tvars.now args.now }
 {
     for a in args {
-        if !(is_type_among(index, known, tvars, a) && is_flat(index, a)) {
+        if !(is_type_before(index, k, tvars, a) && is_flat(index, a)) {
             return false;
         }
     }
@@ -85,13 +87,12 @@ pub fn are_arguments_among(index: &Index<'_>, known: &[Def], tvars: &[Name], arg
 pub fn is_type(index: &Index<'_>, tvars: &[Name], a: &Ty) -> bool
     ensures { result ≡ is_type index.now tvars.now a.now }
 {
-    is_type_among(index, index.defs(), tvars, a)
+    is_type_before(index, index.len(), tvars, a)
 }
 
 /// The same in the file.
-#[tactic(auto, unfolding(crate::specs::Types::are_arguments))]
 pub fn are_arguments(index: &Index<'_>, tvars: &[Name], args: &[Ty]) -> bool
     ensures { result ≡ are_arguments index.now tvars.now args.now }
 {
-    are_arguments_among(index, index.defs(), tvars, args)
+    are_arguments_before(index, index.len(), tvars, args)
 }

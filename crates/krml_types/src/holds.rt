@@ -1,106 +1,37 @@
-//! Which structs of a file hold buffers. In a file that is not well typed structs may name one another in circles, so this is
-//! computed in rounds, until one adds none.
+//! Which structs of a file hold buffers. Where structs name earlier ones alone, one pass from the first to the last tells. In a file
+//! that is not well typed they may name later ones, and one another in circles, so rounds follow until one adds none.
 
-ghost use Rattle.std.specs.Prelude.{◌≡◌, IfOk, map};
+ghost use Rattle.std.specs.Prelude.{◌≡◌, [], IfOk, map};
 ghost use Rattle.krml_syntax.specs.declared.tree.Ty.{out-Ty};
-ghost use Rattle.krml_types.specs.Holds.{is_set, holds_by, place_from, part_in, parts_of, parts_in, part_holds, any_part, set_more, same_table, none_set, holders};
+ghost use Rattle.krml_types.specs.Holds.{holds_by, struct_place, part_in, parts_of, parts_in, part_holds, any_part, set_more, same_table, swept, holders};
 
 use crate::part::Part;
+use krml_ast::{NameKind, Names};
 use krml_syntax::{Def, Field, Ty};
 use krml_trace::{Name, NoMemory, Seq};
 use std::alloc::Global;
-use std::marker::Model;
 
-/// The definitions of a file, with a truth value for each: whether it is a struct that holds a buffer.
-#[derive(Drop)]
-pub struct Holders<'a> {
-    defs: &'a [Def],
-    table: Seq<bool>,
-    ghost exact: { table ≡ holders defs.now },
-}
-
-impl<'a> Model for Holders<'a> {
-    ghost use Rattle.std.specs.Prelude.{List};
-    ghost use Rattle.std.specs.Coded.{codes};
-    ghost use Rattle.krml_syntax.specs.declared.tree.Def.{Def};
-    ghost use Rattle.krml_syntax.specs.contracts.tree.Ty as ty;
-    ghost use Rattle.krml_syntax.specs.contracts.tree.Expr as expr;
-
-    ghost Value = { List Def };
-
-    ghost coded = { Prim.hlevel (codes, ty.the_row.coded, expr.the_row.coded) };
-
-    ghost view = { λ s. s.defs.now };
-}
-
-impl<'a> Holders<'a> {
-    pub fn new(alloc: Global, defs: &'a [Def]) -> Result<Holders<'a>, NoMemory>
-        ensures { IfOk result (λ r. r ≡ defs.now) }
-    {
-        let table = settled(alloc, defs)?;
-        Ok(Holders { defs, table })
-    }
-
-    pub fn defs(&self) -> &'a [Def]
-        ensures { result.now ≡ self.now }
-    {
-        self.defs
-    }
-
-    /// Whether a type holds a buffer.
-    pub fn holds(&self, a: &Ty) -> bool
-        ensures { result ≡ holds_by self.now (holders self.now) a.now }
-    {
-        holds_by(self.defs, self.table.as_slice(), a)
-    }
-}
-
-fn is_set(defs: &[Def], table: &[bool], x: &Name) -> bool
-    ensures { result ≡ is_set defs.now table.now x.now }
+/// Whether a type is a buffer, or of a struct that is set.
+pub fn holds_by(names: &Names<'_>, table: &[bool], a: &Ty) -> bool
+    ensures { result ≡ holds_by names.now table.now a.now }
 {
-    let [def, defs @ ..] = defs else {
-        return false;
-    };
-    let [set, table @ ..] = table else {
-        return false;
-    };
-    match def {
-        Def::Struct { name, .. } if name.as_bytes() == x.as_bytes() => *set,
-        Def::Sum { name, .. } if name.as_bytes() == x.as_bytes() => false,
-        _ => is_set(defs, table, x),
-    }
-}
-
-fn holds_by(defs: &[Def], table: &[bool], a: &Ty) -> bool
-    ensures { result ≡ holds_by defs.now table.now a.now }
-{
-    match a {
-        Ty::Buf(_) => true,
-        Ty::Named(x, _) => is_set(defs, table, x),
-        _ => false,
-    }
+    part_holds(table, &part_of(names, a))
 }
 
 /// The place of the first struct of a name, where no sum of that name stands before it.
-fn place_of(defs: &[Def], x: &Name) -> Option<usize>
-    ensures { result ≡ place_from defs.now 0 x.now }
+fn struct_place(names: &Names<'_>, x: &Name) -> Option<usize>
+    ensures { result ≡ struct_place names.now x.now }
 {
-    for (k, def) in defs.iter().enumerate() {
-        match def {
-            Def::Struct { name, .. } if name.as_bytes() == x.as_bytes() => return Some(k),
-            Def::Sum { name, .. } if name.as_bytes() == x.as_bytes() => return None,
-            _ => {}
-        }
-    }
-    None
+    names.struct_named(x)?;
+    names.place(NameKind::Type, x)
 }
 
-fn part_of(defs: &[Def], a: &Ty) -> Part
-    ensures { result ≡ part_in defs.now (out-Ty a.now) }
+fn part_of(names: &Names<'_>, a: &Ty) -> Part
+    ensures { result ≡ part_in names.now (out-Ty a.now) }
 {
     match a {
         Ty::Buf(_) => Part::Buffer,
-        Ty::Named(x, _) => match place_of(defs, x) {
+        Ty::Named(x, _) => match struct_place(names, x) {
             Some(k) => Part::At(k),
             None => Part::Nothing,
         },
@@ -108,31 +39,31 @@ fn part_of(defs: &[Def], a: &Ty) -> Part
     }
 }
 
-fn parts_of(alloc: Global, defs: &[Def], fields: &[Field]) -> Result<Seq<Part>, NoMemory>
-    ensures { IfOk result (λ r. r ≡ parts_of defs.now fields.now) }
+fn parts_of(alloc: Global, names: &Names<'_>, fields: &[Field]) -> Result<Seq<Part>, NoMemory>
+    ensures { IfOk result (λ r. r ≡ parts_of names.now fields.now) }
 {
     let mut parts = Seq::new(alloc);
     for field in fields {
-        parts.push(part_of(defs, &field.ty))?;
+        parts.push(part_of(names, &field.ty))?;
     }
     Ok(parts)
 }
 
-fn parts_in(alloc: Global, defs: &[Def], def: &Def) -> Result<Seq<Part>, NoMemory>
-    ensures { IfOk result (λ r. r ≡ parts_in defs.now def.now) }
+fn parts_in(alloc: Global, names: &Names<'_>, def: &Def) -> Result<Seq<Part>, NoMemory>
+    ensures { IfOk result (λ r. r ≡ parts_in names.now def.now) }
 {
     match def {
-        Def::Struct { fields, .. } => parts_of(alloc, defs, fields.as_slice()),
+        Def::Struct { fields, .. } => parts_of(alloc, names, fields.as_slice()),
         _ => Ok(Seq::new(alloc)),
     }
 }
 
-fn all_parts(alloc: Global, defs: &[Def]) -> Result<Seq<Seq<Part>>, NoMemory>
-    ensures { IfOk result (λ r. r ≡ map (parts_in defs.now) defs.now) }
+fn all_parts(alloc: Global, names: &Names<'_>) -> Result<Seq<Seq<Part>>, NoMemory>
+    ensures { IfOk result (λ r. r ≡ map (parts_in names.now) names.now) }
 {
     let mut all = Seq::new(alloc);
-    for def in defs {
-        all.push(parts_in(alloc, defs, def)?)?;
+    for def in names.defs() {
+        all.push(parts_in(alloc, names, def)?)?;
     }
     Ok(all)
 }
@@ -176,12 +107,14 @@ fn round(alloc: Global, all: &[Seq<Part>], table: &[bool]) -> Result<Seq<bool>, 
     Ok(next)
 }
 
-fn none_set(alloc: Global, defs: &[Def]) -> Result<Seq<bool>, NoMemory>
-    ensures { IfOk result (λ r. r ≡ none_set defs.now) }
+/// Each set by what the ones before it are, from the first to the last.
+fn swept(alloc: Global, all: &[Seq<Part>]) -> Result<Seq<bool>, NoMemory>
+    ensures { IfOk result (λ r. r ≡ swept all.now []) }
 {
     let mut table = Seq::new(alloc);
-    for _def in defs {
-        table.push(false)?;
+    for parts in all {
+        let set = any_part(table.as_slice(), parts.as_slice());
+        table.push(set)?;
     }
     Ok(table)
 }
@@ -202,13 +135,13 @@ fn same_table(table: &[bool], other: &[bool]) -> bool
     left.is_empty()
 }
 
-#[tactic(auto, unfolding(crate::specs::Holds::holders))]
-fn settled(alloc: Global, defs: &[Def]) -> Result<Seq<bool>, NoMemory>
-    ensures { IfOk result (λ r. r ≡ holders defs.now) }
+/// A truth value for each definition: whether it is a struct that holds a buffer.
+pub fn settled(alloc: Global, names: &Names<'_>) -> Result<Seq<bool>, NoMemory>
+    ensures { IfOk result (λ r. r ≡ holders names.now) }
 {
-    let all = all_parts(alloc, defs)?;
-    let mut table = none_set(alloc, defs)?;
-    let mut left = defs.len();
+    let all = all_parts(alloc, names)?;
+    let mut table = swept(alloc, all.as_slice())?;
+    let mut left = names.defs().len();
     while left > 0 {
         left -= 1;
         let next = round(alloc, all.as_slice(), table.as_slice())?;

@@ -82,7 +82,7 @@ pub fn make_at(
 ) -> Result<Instance, Untyped>
     ensures { Gives result (make_at index.now tvars.now x.now args.now) }
 {
-    let Some(def) = index.struct_named(x) else {
+    let Some(def) = index.names().struct_named(x) else {
         return Err(Untyped::Fault);
     };
     demand(serve(index, tvars, def.vars, args))?;
@@ -101,7 +101,7 @@ pub fn con_at(
 ) -> Result<Instance, Untyped>
     ensures { Gives result (con_at index.now tvars.now x.now args.now) }
 {
-    let Some(def) = index.con_named(x) else {
+    let Some(def) = index.names().con_named(x) else {
         return Err(Untyped::Fault);
     };
     demand(serve(index, tvars, def.vars, args))?;
@@ -120,7 +120,7 @@ pub fn call_at(
 ) -> Result<Instance, Untyped>
     ensures { Gives result (call_at index.now tvars.now x.now args.now) }
 {
-    let Some(def) = index.fun_named(x) else {
+    let Some(def) = index.names().fun_named(x) else {
         return Err(Untyped::Fault);
     };
     demand(serve(index, tvars, def.vars, args))?;
@@ -146,7 +146,7 @@ pub fn field_type(alloc: Global, index: &Index<'_>, y: &Name, a: &Ty) -> Result<
     let Some((x, args)) = name_of(a) else {
         return Err(Untyped::Fault);
     };
-    let Some(def) = index.struct_named(x) else {
+    let Some(def) = index.names().struct_named(x) else {
         return Err(Untyped::Fault);
     };
     let Some(ty) = field_named(def.fields, y) else {
@@ -159,7 +159,7 @@ pub fn field_type(alloc: Global, index: &Index<'_>, y: &Name, a: &Ty) -> Result<
 pub fn make_parts(alloc: Global, index: &Index<'_>, x: &Name, a: &Ty) -> Result<Seq<Ty>, Untyped>
     ensures { Gives result (make_parts index.now x.now a.now) }
 {
-    let Some(def) = index.struct_named(x) else {
+    let Some(def) = index.names().struct_named(x) else {
         return Err(Untyped::Fault);
     };
     let Some(args) = args_of(x, a) else {
@@ -172,7 +172,7 @@ pub fn make_parts(alloc: Global, index: &Index<'_>, x: &Name, a: &Ty) -> Result<
 pub fn con_parts(alloc: Global, index: &Index<'_>, x: &Name, a: &Ty) -> Result<Seq<Ty>, Untyped>
     ensures { Gives result (con_parts index.now x.now a.now) }
 {
-    let Some(def) = index.con_named(x) else {
+    let Some(def) = index.names().con_named(x) else {
         return Err(Untyped::Fault);
     };
     let Some(args) = args_of(def.sum, a) else {
@@ -185,7 +185,7 @@ pub fn con_parts(alloc: Global, index: &Index<'_>, x: &Name, a: &Ty) -> Result<S
 pub fn part_type(alloc: Global, index: &Index<'_>, x: &Name, j: u32, a: &Ty) -> Result<Ty, Untyped>
     ensures { Gives result (part_type index.now x.now j a.now) }
 {
-    let Some(def) = index.con_named(x) else {
+    let Some(def) = index.names().con_named(x) else {
         return Err(Untyped::Fault);
     };
     let Some(args) = args_of(def.sum, a) else {
@@ -201,7 +201,7 @@ pub fn part_type(alloc: Global, index: &Index<'_>, x: &Name, j: u32, a: &Ty) -> 
 pub fn tag_type(index: &Index<'_>, x: &Name, a: &Ty) -> Result<Ty, Untyped>
     ensures { Gives result (tag_type index.now x.now a.now) }
 {
-    let Some(def) = index.con_named(x) else {
+    let Some(def) = index.names().con_named(x) else {
         return Err(Untyped::Fault);
     };
     match args_of(def.sum, a) {

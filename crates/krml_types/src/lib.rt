@@ -8,7 +8,6 @@ mod formed;
 mod holds;
 mod index;
 mod instance;
-mod kind;
 mod names;
 mod part;
 mod pattern;

@@ -1,65 +1,39 @@
 //! The names that definitions give: which are new, and which are distinct.
 
-ghost use Rattle.std.specs.Prelude.{◌≡◌};
+ghost use Rattle.std.specs.Prelude.{◌≡◌, take};
+ghost use Rattle.krml_ast.specs.declared.kind.NameKind.TheVariants as kinds;
+ghost use Rattle.krml_ast.specs.Places.{cons_of, names_in};
 ghost use Rattle.krml_ast.specs.WellTyped.{names_of};
-ghost use Rattle.krml_types.specs.declared.kind.NameKind.TheVariants as kinds;
-ghost use Rattle.krml_types.specs.Types.{is_among};
-ghost use Rattle.krml_types.specs.Definitions.{is_fresh, distinct_names, names_in, is_given, is_new, all_new, cons_of};
+ghost use Rattle.krml_types.specs.Definitions.{is_fresh, distinct_names, is_given, is_new, all_new};
 
-use crate::kind::NameKind;
-use krml_syntax::{Con, Def, Field};
+use crate::index::Index;
+use krml_ast::NameKind;
+use krml_syntax::{Con, Field};
 use krml_trace::Name;
 
-fn is_con(cons: &[Con], x: &Name) -> bool
-    ensures { result ≡ is_among (cons_of cons.now) x.now }
+/// Whether a definition before a place gives a name of a kind.
+pub fn is_given(index: &Index<'_>, kind: NameKind, k: usize, x: &Name) -> bool
+    ensures { result ≡ is_given (names_in kind) (take k index.now) x.now }
 {
-    for con in cons {
-        if con.name.as_bytes() == x.as_bytes() {
-            return true;
-        }
-    }
-    false
-}
-
-/// Whether a definition gives a name of a kind.
-fn gives(kind: NameKind, def: &Def, x: &Name) -> bool
-    ensures { result ≡ is_among (names_in kind def.now) x.now }
-{
-    match (kind, def) {
-        (NameKind::Type, Def::Struct { name, .. }) => name.as_bytes() == x.as_bytes(),
-        (NameKind::Type, Def::Sum { name, .. }) => name.as_bytes() == x.as_bytes(),
-        (NameKind::Con, Def::Sum { cons, .. }) => is_con(cons.as_slice(), x),
-        (NameKind::Table, Def::Table { name, .. }) => name.as_bytes() == x.as_bytes(),
-        (NameKind::Fun, Def::Fun { name, .. }) => name.as_bytes() == x.as_bytes(),
-        (NameKind::Entry, Def::Entry { name }) => name.as_bytes() == x.as_bytes(),
-        _ => false,
+    match index.names().place(kind, x) {
+        Some(j) => j < k,
+        None => false,
     }
 }
 
-fn is_given(kind: NameKind, before: &[Def], x: &Name) -> bool
-    ensures { result ≡ is_given (names_in kind) before.now x.now }
+/// Whether no definition before a place gives a name of a kind.
+pub fn is_new(index: &Index<'_>, kind: NameKind, k: usize, x: &Name) -> bool
+    ensures { result ≡ is_new kind (take k index.now) x.now }
 {
-    for def in before {
-        if gives(kind, def, x) {
-            return true;
-        }
-    }
-    false
-}
-
-/// Whether none of these definitions gives a name of a kind.
-pub fn is_new(kind: NameKind, before: &[Def], x: &Name) -> bool
-    ensures { result ≡ is_new kind before.now x.now }
-{
-    !is_given(kind, before, x)
+    !is_given(index, kind, k, x)
 }
 
 /// The same of constructors.
-pub fn all_new(before: &[Def], cons: &[Con]) -> bool
-    ensures { result ≡ all_new kinds.Con before.now (cons_of cons.now) }
+pub fn all_new(index: &Index<'_>, k: usize, cons: &[Con]) -> bool
+    ensures { result ≡ all_new kinds.Con (take k index.now) (cons_of cons.now) }
 {
     for con in cons {
-        if !is_new(NameKind::Con, before, &con.name) {
+        if !is_new(index, NameKind::Con, k, &con.name) {
             return false;
         }
     }

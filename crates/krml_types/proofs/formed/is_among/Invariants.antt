@@ -1,5 +1,5 @@
 use Rattle.std.proofs.Common.{◌≡◌, drop}
-use Rattle.krml_types.specs.Types.{is_among}
+use Rattle.krml_ast.specs.Places.{is_among}
 use Rattle.krml_types.proofs.formed.is_among.Given as goal
 
 abbrev pub invariant-loop-v : goal.invariant-loop-v
