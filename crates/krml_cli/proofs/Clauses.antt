@@ -1,20 +1,21 @@
 -- What follows from the end of a call.
-use Rattle.std.proofs.Common.{◌≡◌, ℕ, ◌+◌, ◌<◌, ◌≤◌, ◌⊎◌, inl, inr, Bool, true, false, nat_lt, List, Option, Some, None, Result, Ok, Err, [], ◌++◌, length, refl, sym, ap, ◌∙◌, subst, arith, length-append}
+use Rattle.std.proofs.Common.{◌≡◌, ℕ, ◌+◌, ◌<◌, ◌≤◌, ◌⊎◌, inl, inr, Bool, true, false, nat_lt, List, Option, Some, None, [], ◌++◌, length, refl, sym, ap, ◌∙◌, subst, arith, length-append}
 use Rattle.std.proofs.lemmas.Bool.Decides.{nat_tests}
 use Rattle.std.proofs.lemmas.List.{append-nil}
 use Rattle.std.specs.Io.KnownBytes.{Keeps, Appends, Consumes}
 use Rattle.krml_trace.specs.Outside.{Rose}
 use Rattle.krml_syntax.specs.declared.tree.SourceFile.{SourceFile}
-use Rattle.krml_reader.specs.declared.refusal.ReadRefusal.{ReadRefusal}
 use Rattle.krml_reader.specs.declared.refusal.ReadRefusal.TheVariants.{TooLarge}
 use Rattle.krml_reader.specs.Read.{Reads}
+use Rattle.krml_command.specs.declared.request.Command.{Command}
+use Rattle.krml_command.specs.declared.request.Command.TheVariants.{C, Check}
 use Rattle.krml_cli.specs.declared.refusal.FileRefusal.{FileRefusal}
 use Rattle.krml_cli.specs.declared.refusal.FileRefusal.TheVariants.{Read}
 use Rattle.krml_cli.specs.declared.stop.Stop.{Stop}
 use Rattle.krml_cli.specs.declared.stop.Stop.TheVariants as stop
-use Rattle.krml_cli.specs.Ends.{IsCompile, SpellsNoFirst, Taken, max_text, AppendsPrefix, Call, Stops, Ends, Compiled, Refused, RefusedFor, PrefixOnly, IsLine, IsNoted, IsPlain, IsCut, line_of, status_of}
-use Rattle.krml_cli.specs.First.{IsFirstFile, SpellsFirst}
+use Rattle.krml_cli.specs.Ends.{Asks, IsUsage, Serves, ServesNone, Makes, IsOutput, Taken, max_text, AppendsPrefix, Call, Stops, Ends, Compiled, Accepted, Refused, RefusedFor, FailedNotes, PrefixOnly, IsLine, IsNoted, IsPlain, IsCut, line_of, status_of}
 use Rattle.krml_cli.specs.Refusal.{Refuses}
+use Rattle.krml_cli.proofs.Refusals.{OneAnswer, asks_one, asks_is_no_usage, serves_none, one_refusal, makes_serves, serves_short}
 
 -- what an end tells stays as it was
 keeps : (a b : Option (List ℕ)) → b ≡ a → Keeps a b
@@ -22,16 +23,16 @@ keeps None b e = tt
 keeps (Some xs) b e = subst (Keeps (Some xs)) (sym e) refl
 
 -- a call that stopped before it wrote left the output as it was, else a prefix of its text
-prefix_of : (c : Call) (why : Stop) → Stops c why → PrefixOnly c.left c.left' c.written c.written'
+prefix_of : (c : Call) (why : Stop) → Stops c why → PrefixOnly c.words c.left c.left' c.written c.written'
 prefix_of c _ (Stops.usage w l q u) = inl u.same
 prefix_of c _ (Stops.read_fault w l r u) = inl u.same
 prefix_of c _ (Stops.refused w t r q u) = inl u.same
-prefix_of c _ (Stops.write_fault {text = text} w k q f l r) = inr (text, k, f)
+prefix_of c _ (Stops.write_fault {text = text} k q f l r) = inr (text, k, f)
 prefix_of c _ (Stops.no_memory w q u) = inl u.same
-prefix_of c _ (Stops.no_memory_to_write {text = text} w k q f r) = inr (text, k, f)
+prefix_of c _ (Stops.no_memory_to_write {text = text} k q f r) = inr (text, k, f)
 
-pub prefix : (c : Call) (status : ℕ) → Ends c status → IsCut status → PrefixOnly c.left c.left' c.written c.written'
-prefix c _ (Ends.done w t q a k n m) cut = absurd (omega (arith, cut))
+pub prefix : (c : Call) (status : ℕ) → Ends c status → IsCut status → PrefixOnly c.words c.left c.left' c.written c.written'
+prefix c _ (Ends.done t q a k n m) cut = absurd (omega (arith, cut))
 prefix c _ (Ends.noted {why = why} s a q) cut = prefix_of c why s
 prefix c _ (Ends.note_failed {why = why} s a l r) cut = prefix_of c why s
 prefix c _ (Ends.note_lacked_memory {why = why} s a q) cut = prefix_of c why s
@@ -41,16 +42,16 @@ pub silent : (c : Call) (status : ℕ) → Ends c status → IsNoted status → 
 silent c _ (Ends.noted (Stops.refused w t r q u) a n) e = keeps c.written c.written' u.same
 silent c _ (Ends.noted (Stops.usage w l q u) a n) e = keeps c.written c.written' u.same
 silent c _ (Ends.noted (Stops.read_fault w l r u) a n) e = keeps c.written c.written' u.same
-silent c _ (Ends.noted (Stops.write_fault w k q f l r) a n) e = absurd (omega (arith, e))
+silent c _ (Ends.noted (Stops.write_fault k q f l r) a n) e = absurd (omega (arith, e))
 silent c _ (Ends.noted (Stops.no_memory w q u) a n) e = absurd (omega (arith, e))
-silent c _ (Ends.noted (Stops.no_memory_to_write w k q f r) a n) e = absurd (omega (arith, e))
-silent c _ (Ends.done w t q a k n m) e = absurd (omega (arith, e))
+silent c _ (Ends.noted (Stops.no_memory_to_write k q f r) a n) e = absurd (omega (arith, e))
+silent c _ (Ends.done t q a k n m) e = absurd (omega (arith, e))
 silent c _ (Ends.note_failed s a l r) e = absurd (omega (arith, e))
 silent c _ (Ends.note_lacked_memory s a q) e = absurd (omega (arith, e))
 
 -- a line that was cut, or the whole line of a status that may come in the midst of writing
 pub note_prefix : (c : Call) (status : ℕ) → Ends c status → IsCut status → (line : List ℕ) × IsLine line × AppendsPrefix c.noted c.noted' line
-note_prefix c _ (Ends.done w t q a k n m) cut = absurd (omega (arith, cut))
+note_prefix c _ (Ends.done t q a k n m) cut = absurd (omega (arith, cut))
 note_prefix c _ (Ends.noted {why = why} s a q) cut = (line_of why, (why, refl), record { prefix = line_of why; rest = []; is = sym (append-nil (line_of why)); appended = a })
 note_prefix c _ (Ends.note_failed {why = why} s a l r) cut = (line_of why, (why, refl), a)
 note_prefix c _ (Ends.note_lacked_memory {why = why} s a q) cut = (line_of why, (why, refl), a)
@@ -71,133 +72,169 @@ taken_short left (Some rest) input taken e t =
     let size : length input ≡ length taken + length rest = ap length is ∙ length-append taken rest in
     omega arith
 
--- answers that are equal are of one kind, and hold the same
-abbrev Answer : Type 0
-Answer = Result SourceFile ReadRefusal
-
-err_is_not_ok : (why : ReadRefusal) (file : SourceFile) (a b : Answer) → a ≡ Err why → b ≡ Ok file → a ≡ b → ⊥
-err_is_not_ok why file a b p q e = cc
-
-same_file : (f g : SourceFile) (a b : Answer) → a ≡ Ok f → b ≡ Ok g → a ≡ b → f ≡ g
-same_file f g a b p q e = cc
-
-same_refusal : (v w : ReadRefusal) (a b : Answer) → a ≡ Err v → b ≡ Err w → a ≡ b → v ≡ w
-same_refusal v w a b p q e = cc
-
--- A text is read as one answer at most.
-abbrev OneAnswer : Type 0
-OneAnswer = (text : List ℕ) (a b : Answer) → Reads text a → Reads text b → a ≡ b
-
 module _ (one : OneAnswer) where
-  -- an input that is refused spells no first file
-  spells_none : (input : List ℕ) (why : FileRefusal) → Refuses input why → SpellsNoFirst input
-  spells_none input _ (Refuses.unread {why = why} r) file s = absurd (err_is_not_ok why file (Err why) (Ok file) refl refl (one input (Err why) (Ok file) r (Reads.file s.spelled)))
-  spells_none input _ (Refuses.not_built {file = other} s unlike) file t = unlike (subst IsFirstFile (same_file file other (Ok file) (Ok other) refl refl (one input (Ok file) (Ok other) (Reads.file t.spelled) (Reads.file s))) t.first)
-
-  -- for one reason
-  one_refusal : (input : List ℕ) (why other : FileRefusal) → Refuses input why → Refuses input other → why ≡ other
-  one_refusal input _ _ (Refuses.unread {why = v} r) (Refuses.unread {why = w} q) = ap Read (same_refusal v w (Err v) (Err w) refl refl (one input (Err v) (Err w) r q))
-  one_refusal input _ _ (Refuses.unread {why = v} r) (Refuses.not_built {file = f} s unlike) = absurd (err_is_not_ok v f (Err v) (Ok f) refl refl (one input (Err v) (Ok f) r (Reads.file s)))
-  one_refusal input _ _ (Refuses.not_built {file = f} s unlike) (Refuses.unread {why = w} q) = absurd (err_is_not_ok w f (Err w) (Ok f) refl refl (one input (Err w) (Ok f) q (Reads.file s)))
-  one_refusal input _ _ (Refuses.not_built s unlike) (Refuses.not_built t other_unlike) = refl
-
-  -- and one that is too large for that one
-  too_large : (input : List ℕ) (why : FileRefusal) → max_text < length input → Refuses input why → why ≡ Read TooLarge
-  too_large input why l r = one_refusal input why (Read TooLarge) r (Refuses.unread (Reads.too_large l))
+  -- an input that is too large is refused for that
+  too_large : (input : List ℕ) (command : Command) (why : FileRefusal) → max_text < length input → Refuses input command why → why ≡ Read TooLarge
+  too_large input command why l r = one_refusal one input command why (Read TooLarge) r (Refuses.unread (Reads.too_large l))
 
   module _ (left left' : Option (List ℕ)) (input taken : List ℕ) (e : left ≡ Some input) (t : Taken left left' taken) where
-    -- what was taken spells what all that was left does, within the limit
+    -- what was taken is all that was left, within the limit
     taken_is : length input ≤ max_text → taken ≡ input
     taken_is short = let some : length taken ≤ length input = taken_short left left' input taken e t in all_taken left left' input taken e t (omega (arith, short, some))
 
-    spells_all : (file : SourceFile) → SpellsFirst input file → SpellsNoFirst taken → ⊥
-    spells_all file s r = r file (subst (λ xs. SpellsFirst xs file) (sym (taken_is s.spelled.short)) s)
+    -- so what serves all that was left serves what was taken, and the other way round
+    serves_taken : (command : Command) (file : SourceFile) → Serves command input file → Serves command taken file
+    serves_taken command file s = subst (λ xs. Serves command xs file) (sym (taken_is (serves_short command input file s))) s
 
-    refuses_all : (file : SourceFile) → SpellsFirst taken file → SpellsNoFirst input → ⊥
-    refuses_all file s r = r file (subst (λ xs. SpellsFirst xs file) (all_taken left left' input taken e t s.spelled.short) s)
+    serves_input : (command : Command) (file : SourceFile) → Serves command taken file → Serves command input file
+    serves_input command file s = subst (λ xs. Serves command xs file) (all_taken left left' input taken e t (serves_short command taken file s)) s
 
-    -- and it is refused for what all that was left is
-    same_why : (why other : FileRefusal) → Refuses taken why → Refuses input other → why ≡ other
-    same_why why other r q = at (nat_lt max_text (length taken)) refl
+    -- what was taken is refused for what all that was left is
+    same_why : (command : Command) (why other : FileRefusal) → Refuses taken command why → Refuses input command other → why ≡ other
+    same_why command why other r q = at (nat_lt max_text (length taken)) refl
       where
         at : (b : Bool) → nat_lt max_text (length taken) ≡ b → why ≡ other
         at true h =
             let long : max_text < length taken = grind (arith, nat_tests) in
             let some : length taken ≤ length input = taken_short left left' input taken e t in
-            too_large taken why long r ∙ sym (too_large input other (omega (arith, long, some)) q)
+            too_large taken command why long r ∙ sym (too_large input command other (omega (arith, long, some)) q)
         at false h =
             let short : length taken ≤ max_text = grind (arith, nat_tests) in
-            one_refusal input why other (subst (λ xs. Refuses xs why) (all_taken left left' input taken e t short) r) q
+            one_refusal one input command why other (subst (λ xs. Refuses xs command why) (all_taken left left' input taken e t short) r) q
 
-  -- a call that was refused took its input, which spells no first file, and noted why
-  pub refused : (c : Call) (status : ℕ) → Ends c status → status ≡ 1 → Refused c.left c.left' c.noted c.noted'
-  refused c _ (Ends.noted (Stops.refused {input = input} {why = why} w t r q u) a n) e =
-      record { input = input; why = why; taken = t; refused = r; none = spells_none input why r; line = a }
+  -- a call that was refused took its input, which its command does not serve, and noted why
+  pub refused : (c : Call) (status : ℕ) → Ends c status → status ≡ 1 → Refused c.words c.left c.left' c.noted c.noted'
+  refused c _ (Ends.noted (Stops.refused {command = command} {input = input} {why = why} w t r q u) a n) e =
+      record { command = command; input = input; why = why; asked = w; taken = t; refused = r; none = serves_none one input command why r; line = a }
   refused c _ (Ends.noted (Stops.usage w l q u) a n) e = absurd (omega arith)
   refused c _ (Ends.noted (Stops.read_fault w l r u) a n) e = absurd (omega arith)
-  refused c _ (Ends.noted (Stops.write_fault w k q f l r) a n) e = absurd (omega arith)
+  refused c _ (Ends.noted (Stops.write_fault k q f l r) a n) e = absurd (omega arith)
   refused c _ (Ends.noted (Stops.no_memory w q u) a n) e = absurd (omega arith)
-  refused c _ (Ends.noted (Stops.no_memory_to_write w k q f r) a n) e = absurd (omega arith)
-  refused c _ (Ends.done w t q a k n m) e = absurd (omega arith)
+  refused c _ (Ends.noted (Stops.no_memory_to_write k q f r) a n) e = absurd (omega arith)
+  refused c _ (Ends.done t q a k n m) e = absurd (omega arith)
   refused c _ (Ends.note_failed s a l r) e = absurd (omega arith)
   refused c _ (Ends.note_lacked_memory s a q) e = absurd (omega arith)
 
-  -- a call at a first file, with no count that rose, ends with its output
-  pub completes : (c : Call) (status : ℕ) → Ends c status → (input : List ℕ) (file : SourceFile) → IsCompile c.words → c.left ≡ Some input → SpellsFirst input file
+  -- what was refused is not what the command that the words ask for serves
+  refused_serves_none : (c : Call) (asked command : Command) (input taken : List ℕ) (why : FileRefusal) (file : SourceFile) → Asks c.words asked → Asks c.words command
+      → c.left ≡ Some input → Taken c.left c.left' taken → Refuses taken asked why → Serves command input file → ⊥
+  refused_serves_none c asked command input taken why file w is e t x s =
+      serves_none one taken command why (subst (λ k. Refuses taken k why) (asks_one c.words asked command w is) x) file (serves_taken c.left c.left' input taken e t command file s)
+
+  -- a call at an input that its command serves, with no count that rose, ends with its output
+  pub completes : (c : Call) (status : ℕ) → Ends c status → (command : Command) (input : List ℕ) (file : SourceFile) → Asks c.words command → c.left ≡ Some input → Serves command input file
       → (Rose c.reads c.reads' → ⊥) → (Rose c.writes c.writes' → ⊥) → (Rose c.notes c.notes' → ⊥) → (status ≡ 0) ⊎ (status ≡ 5)
-  completes c _ (Ends.done w t q a k n m) input file is e s r o p = inl refl
-  completes c _ (Ends.noted (Stops.refused {input = taken} {why = why} w t x q u) a n) input file is e s r o p =
-      absurd (spells_all c.left c.left' input taken e t file s (spells_none taken why x))
-  completes c _ (Ends.noted (Stops.usage w l q u) a n) input file is e s r o p = absurd (w is)
-  completes c _ (Ends.noted (Stops.read_fault w l x u) a n) input file is e s r o p = absurd (r x)
-  completes c _ (Ends.noted (Stops.write_fault w k q f l x) a n) input file is e s r o p = absurd (o x)
-  completes c _ (Ends.noted (Stops.no_memory w q u) a n) input file is e s r o p = inr refl
-  completes c _ (Ends.noted (Stops.no_memory_to_write w k q f x) a n) input file is e s r o p = inr refl
-  completes c _ (Ends.note_failed s a l x) input file is e t r o p = absurd (p x)
-  completes c _ (Ends.note_lacked_memory s a q) input file is e t r o p = inr refl
+  completes c _ (Ends.done t q a k n m) command input file is e s r o p = inl refl
+  completes c _ (Ends.noted (Stops.refused {command = asked} {input = taken} {why = why} w t x q u) a n) command input file is e s r o p =
+      absurd (refused_serves_none c asked command input taken why file w is e t x s)
+  completes c _ (Ends.noted (Stops.usage w l q u) a n) command input file is e s r o p = absurd (asks_is_no_usage c.words command is w)
+  completes c _ (Ends.noted (Stops.read_fault w l x u) a n) command input file is e s r o p = absurd (r x)
+  completes c _ (Ends.noted (Stops.write_fault k q f l x) a n) command input file is e s r o p = absurd (o x)
+  completes c _ (Ends.noted (Stops.no_memory w q u) a n) command input file is e s r o p = inr refl
+  completes c _ (Ends.noted (Stops.no_memory_to_write k q f x) a n) command input file is e s r o p = inr refl
+  completes c _ (Ends.note_failed s a l x) command input file is e t r o p = absurd (p x)
+  completes c _ (Ends.note_lacked_memory s a q) command input file is e t r o p = inr refl
+
+  -- a call with an output took an input that its command serves
+  output_serves : (c : Call) (command : Command) (input text : List ℕ) → Asks c.words command → c.left ≡ Some input → IsOutput c.words c.left c.left' text → ServesNone command input → ⊥
+  output_serves c command input text is e t s =
+      let one_command : t.command ≡ command = asks_one c.words t.command command t.asked is in
+      let served = makes_serves command t.input text (subst (λ k. Makes k t.input text) one_command t.made) in
+      s served.0 (serves_input c.left c.left' input t.input e t.taken command served.0 served.1)
 
   -- a call at any other input, with no count that rose, is refused
-  pub refuses : (c : Call) (status : ℕ) → Ends c status → (input : List ℕ) → IsCompile c.words → c.left ≡ Some input → SpellsNoFirst input
+  pub refuses : (c : Call) (status : ℕ) → Ends c status → (command : Command) (input : List ℕ) → Asks c.words command → c.left ≡ Some input → ServesNone command input
       → (Rose c.reads c.reads' → ⊥) → (Rose c.writes c.writes' → ⊥) → (Rose c.notes c.notes' → ⊥) → (status ≡ 1) ⊎ (status ≡ 5)
-  refuses c _ (Ends.done w t q a k n m) input is e s r o p = absurd (refuses_all c.left c.left' input t.input e t.taken t.compiled.file t.compiled.spelled s)
-  refuses c _ (Ends.noted (Stops.refused w t x q u) a n) input is e s r o p = inl refl
-  refuses c _ (Ends.noted (Stops.usage w l q u) a n) input is e s r o p = absurd (w is)
-  refuses c _ (Ends.noted (Stops.read_fault w l x u) a n) input is e s r o p = absurd (r x)
-  refuses c _ (Ends.noted (Stops.write_fault w k q f l x) a n) input is e s r o p = absurd (o x)
-  refuses c _ (Ends.noted (Stops.no_memory w q u) a n) input is e s r o p = inr refl
-  refuses c _ (Ends.noted (Stops.no_memory_to_write w k q f x) a n) input is e s r o p = inr refl
-  refuses c _ (Ends.note_failed s a l x) input is e t r o p = absurd (p x)
-  refuses c _ (Ends.note_lacked_memory s a q) input is e t r o p = inr refl
+  refuses c _ (Ends.done {text = text} t q a k n m) command input is e s r o p = absurd (output_serves c command input text is e t s)
+  refuses c _ (Ends.noted (Stops.refused w t x q u) a n) command input is e s r o p = inl refl
+  refuses c _ (Ends.noted (Stops.usage w l q u) a n) command input is e s r o p = absurd (asks_is_no_usage c.words command is w)
+  refuses c _ (Ends.noted (Stops.read_fault w l x u) a n) command input is e s r o p = absurd (r x)
+  refuses c _ (Ends.noted (Stops.write_fault k q f l x) a n) command input is e s r o p = absurd (o x)
+  refuses c _ (Ends.noted (Stops.no_memory w q u) a n) command input is e s r o p = inr refl
+  refuses c _ (Ends.noted (Stops.no_memory_to_write k q f x) a n) command input is e s r o p = inr refl
+  refuses c _ (Ends.note_failed s a l x) command input is e t r o p = absurd (p x)
+  refuses c _ (Ends.note_lacked_memory s a q) command input is e t r o p = inr refl
 
   -- and it notes why
-  pub refuses_for : (c : Call) (status : ℕ) → Ends c status → (input : List ℕ) (why : FileRefusal) → IsCompile c.words → c.left ≡ Some input → Refuses input why
+  pub refuses_for : (c : Call) (status : ℕ) → Ends c status → (command : Command) (input : List ℕ) (why : FileRefusal) → Asks c.words command → c.left ≡ Some input → Refuses input command why
       → (Rose c.reads c.reads' → ⊥) → (Rose c.writes c.writes' → ⊥) → (Rose c.notes c.notes' → ⊥) → RefusedFor why status c.noted c.noted' ⊎ (status ≡ 5)
-  refuses_for c _ (Ends.done w t q a k n m) input why is e s r o p =
-      absurd (refuses_all c.left c.left' input t.input e t.taken t.compiled.file t.compiled.spelled (spells_none input why s))
-  refuses_for c _ (Ends.noted (Stops.refused {input = taken} {why = other} w t x q u) a n) input why is e s r o p =
-      inl (record { is = refl; line = subst (λ v. Appends c.noted c.noted' (line_of (stop.Refused v))) (same_why c.left c.left' input taken e t other why x s) a })
-  refuses_for c _ (Ends.noted (Stops.usage w l q u) a n) input why is e s r o p = absurd (w is)
-  refuses_for c _ (Ends.noted (Stops.read_fault w l x u) a n) input why is e s r o p = absurd (r x)
-  refuses_for c _ (Ends.noted (Stops.write_fault w k q f l x) a n) input why is e s r o p = absurd (o x)
-  refuses_for c _ (Ends.noted (Stops.no_memory w q u) a n) input why is e s r o p = inr refl
-  refuses_for c _ (Ends.noted (Stops.no_memory_to_write w k q f x) a n) input why is e s r o p = inr refl
-  refuses_for c _ (Ends.note_failed s a l x) input why is e t r o p = absurd (p x)
-  refuses_for c _ (Ends.note_lacked_memory s a q) input why is e t r o p = inr refl
+  refuses_for c _ (Ends.done {text = text} t q a k n m) command input why is e s r o p = absurd (output_serves c command input text is e t (serves_none one input command why s))
+  refuses_for c _ (Ends.noted (Stops.refused {command = asked} {input = taken} {why = other} w t x q u) a n) command input why is e s r o p =
+      let x2 = subst (λ k. Refuses taken k other) (asks_one c.words asked command w is) x in
+      inl (record { is = refl; line = subst (λ v. Appends c.noted c.noted' (line_of (stop.Refused v))) (same_why c.left c.left' input taken e t command other why x2 s) a })
+  refuses_for c _ (Ends.noted (Stops.usage w l q u) a n) command input why is e s r o p = absurd (asks_is_no_usage c.words command is w)
+  refuses_for c _ (Ends.noted (Stops.read_fault w l x u) a n) command input why is e s r o p = absurd (r x)
+  refuses_for c _ (Ends.noted (Stops.write_fault k q f l x) a n) command input why is e s r o p = absurd (o x)
+  refuses_for c _ (Ends.noted (Stops.no_memory w q u) a n) command input why is e s r o p = inr refl
+  refuses_for c _ (Ends.noted (Stops.no_memory_to_write k q f x) a n) command input why is e s r o p = inr refl
+  refuses_for c _ (Ends.note_failed s a l x) command input why is e t r o p = absurd (p x)
+  refuses_for c _ (Ends.note_lacked_memory s a q) command input why is e t r o p = inr refl
 
--- a call that ends with its output wrote the text that its input compiles to
-pub compiled : (c : Call) (status : ℕ) → Ends c status → status ≡ 0 → Compiled c.left c.left' c.written c.written'
-compiled c _ (Ends.done {text = text} w t q a k n m) e = record { text = text; output = t; appended = a }
-compiled c _ (Ends.noted {why = stop.Refused why} s a q) e = absurd (omega arith)
-compiled c _ (Ends.noted {why = stop.Usage} s a q) e = absurd (omega arith)
-compiled c _ (Ends.noted {why = stop.ReadFault} s a q) e = absurd (omega arith)
-compiled c _ (Ends.noted {why = stop.WriteFault} s a q) e = absurd (omega arith)
-compiled c _ (Ends.noted {why = stop.NoMemory} s a q) e = absurd (omega arith)
-compiled c _ (Ends.note_failed s a l r) e = absurd (omega arith)
-compiled c _ (Ends.note_lacked_memory s a q) e = absurd (omega arith)
+-- a call that ends with its output wrote what its command makes of its input
+pub compiled : (c : Call) (status : ℕ) → Ends c status → Asks c.words C → status ≡ 0 → Compiled c.left c.left' c.written c.written'
+compiled c _ (Ends.done {text = text} t q a k n m) is e =
+    record { input = t.input; text = text; taken = t.taken; compiled = subst (λ k. Makes k t.input text) (asks_one c.words t.command C t.asked is) t.made; appended = a }
+compiled c _ (Ends.noted {why = stop.Refused why} s a q) is e = absurd (omega arith)
+compiled c _ (Ends.noted {why = stop.Usage} s a q) is e = absurd (omega arith)
+compiled c _ (Ends.noted {why = stop.ReadFault} s a q) is e = absurd (omega arith)
+compiled c _ (Ends.noted {why = stop.WriteFault} s a q) is e = absurd (omega arith)
+compiled c _ (Ends.noted {why = stop.NoMemory} s a q) is e = absurd (omega arith)
+compiled c _ (Ends.note_failed s a l r) is e = absurd (omega arith)
+compiled c _ (Ends.note_lacked_memory s a q) is e = absurd (omega arith)
+
+pub accepted : (c : Call) (status : ℕ) → Ends c status → Asks c.words Check → status ≡ 0 → Accepted c.left c.left' c.written c.written'
+accepted c _ (Ends.done {text = text} t q a k n m) is e =
+    let made = subst (λ k. Makes k t.input text) (asks_one c.words t.command Check t.asked is) t.made in
+    record { input = t.input; file = made.0.0; taken = t.taken; accepted = made.0.1; appended = subst (Appends c.written c.written') made.1 a }
+accepted c _ (Ends.noted {why = stop.Refused why} s a q) is e = absurd (omega arith)
+accepted c _ (Ends.noted {why = stop.Usage} s a q) is e = absurd (omega arith)
+accepted c _ (Ends.noted {why = stop.ReadFault} s a q) is e = absurd (omega arith)
+accepted c _ (Ends.noted {why = stop.WriteFault} s a q) is e = absurd (omega arith)
+accepted c _ (Ends.noted {why = stop.NoMemory} s a q) is e = absurd (omega arith)
+accepted c _ (Ends.note_failed s a l r) is e = absurd (omega arith)
+accepted c _ (Ends.note_lacked_memory s a q) is e = absurd (omega arith)
+
+-- a call that ends as usage has words that ask for no command
+pub usage : (c : Call) (status : ℕ) → Ends c status → status ≡ 2 → IsUsage c.words
+usage c _ (Ends.noted (Stops.usage w l q u) a n) e = w
+usage c _ (Ends.noted (Stops.refused w t r q u) a n) e = absurd (omega arith)
+usage c _ (Ends.noted (Stops.read_fault w l r u) a n) e = absurd (omega arith)
+usage c _ (Ends.noted (Stops.write_fault k q f l r) a n) e = absurd (omega arith)
+usage c _ (Ends.noted (Stops.no_memory w q u) a n) e = absurd (omega arith)
+usage c _ (Ends.noted (Stops.no_memory_to_write k q f r) a n) e = absurd (omega arith)
+usage c _ (Ends.done t q a k n m) e = absurd (omega arith)
+usage c _ (Ends.note_failed s a l r) e = absurd (omega arith)
+usage c _ (Ends.note_lacked_memory s a q) e = absurd (omega arith)
+
+-- a call with words that ask for no command is usage, unless the notes failed or memory ran out, and nothing is read
+pub usage_always : (c : Call) (status : ℕ) → Ends c status → IsUsage c.words → (status ≡ 2) ⊎ FailedNotes status c.notes c.notes' ⊎ (status ≡ 5)
+usage_always c _ (Ends.noted (Stops.usage w l q u) a n) h = inl refl
+usage_always c _ (Ends.noted (Stops.refused {command = command} w t r q u) a n) h = absurd (asks_is_no_usage c.words command w h)
+usage_always c _ (Ends.noted (Stops.read_fault {command = command} w l r u) a n) h = absurd (asks_is_no_usage c.words command w h)
+usage_always c _ (Ends.noted (Stops.write_fault k q f l r) a n) h = absurd (asks_is_no_usage c.words k.command k.asked h)
+usage_always c _ (Ends.noted (Stops.no_memory w q u) a n) h = inr (inr refl)
+usage_always c _ (Ends.noted (Stops.no_memory_to_write k q f r) a n) h = inr (inr refl)
+usage_always c _ (Ends.done t q a k n m) h = absurd (asks_is_no_usage c.words t.command t.asked h)
+usage_always c _ (Ends.note_failed s a l r) h = inr (inl (refl, r))
+usage_always c _ (Ends.note_lacked_memory s a q) h = inr (inr refl)
+
+unread_by : (c : Call) (why : Stop) → Stops c why → IsUsage c.words → (c.left' ≡ c.left) × (c.reads' ≡ c.reads)
+unread_by c _ (Stops.usage w l q u) h = (l, q)
+unread_by c _ (Stops.refused {command = command} w t r q u) h = absurd (asks_is_no_usage c.words command w h)
+unread_by c _ (Stops.read_fault {command = command} w l r u) h = absurd (asks_is_no_usage c.words command w h)
+unread_by c _ (Stops.write_fault k q f l r) h = absurd (asks_is_no_usage c.words k.command k.asked h)
+unread_by c _ (Stops.no_memory w q u) h = (w h, q)
+unread_by c _ (Stops.no_memory_to_write k q f r) h = absurd (asks_is_no_usage c.words k.command k.asked h)
+
+pub unread : (c : Call) (status : ℕ) → Ends c status → IsUsage c.words → (c.left' ≡ c.left) × (c.reads' ≡ c.reads)
+unread c _ (Ends.done t q a k n m) h = absurd (asks_is_no_usage c.words t.command t.asked h)
+unread c _ (Ends.noted {why = why} s a q) h = unread_by c why s h
+unread c _ (Ends.note_failed {why = why} s a l r) h = unread_by c why s h
+unread c _ (Ends.note_lacked_memory {why = why} s a q) h = unread_by c why s h
 
 -- where the output failed, the notes have the line of a write fault
 pub write_noted : (c : Call) (status : ℕ) → Ends c status → status ≡ 4 → (Rose c.notes c.notes' → ⊥) → Appends c.noted c.noted' (line_of stop.WriteFault)
-write_noted c _ (Ends.done w t q a k n m) e p = absurd (omega arith)
+write_noted c _ (Ends.done t q a k n m) e p = absurd (omega arith)
 write_noted c _ (Ends.noted {why = stop.WriteFault} s a q) e p = a
 write_noted c _ (Ends.noted {why = stop.Refused why} s a q) e p = absurd (omega arith)
 write_noted c _ (Ends.noted {why = stop.Usage} s a q) e p = absurd (omega arith)
@@ -217,6 +254,6 @@ same_stop _ _ p e = absurd (omega arith)
 
 pub noted : (c : Call) (status : ℕ) → Ends c status → (why : Stop) → IsPlain status → status ≡ status_of why → Appends c.noted c.noted' (line_of why)
 noted c _ (Ends.noted {why = other} s a q) why p e = subst (Appends c.noted c.noted') (same_stop other why p e) a
-noted c _ (Ends.done w t q a k n m) why h e = absurd (omega (arith, h))
+noted c _ (Ends.done t q a k n m) why h e = absurd (omega (arith, h))
 noted c _ (Ends.note_failed s a l r) why h e = absurd (omega (arith, h))
 noted c _ (Ends.note_lacked_memory s a q) why h e = absurd (omega (arith, h))

@@ -1,56 +1,120 @@
 -- How the steps of a call make its end.
-use Rattle.std.proofs.Common.{◌≡◌, ℕ, List, Option, Result, Ok, Err, Vec, subst, sym, true≢false}
+use Rattle.std.proofs.Common.{◌≡◌, ℕ, List, Option, Some, None, Result, Ok, Err, Vec, refl, subst, sym, ap, ◌∙◌, true≢false}
 use Rattle.std.specs.Result.{IsErr, IsErrAnd}
 use Rattle.std.specs.declared.alloc.Global.{Global}
 use Rattle.std.specs.Io.KnownBytes.{Appends}
 use Rattle.krml_trace.specs.declared.outside.SinkFault.TheVariants as fault
+use Rattle.krml_syntax.specs.declared.tree.SourceFile.{SourceFile}
+use Rattle.krml_syntax.specs.File.{SpellsFile}
+use Rattle.krml_ast.specs.WellTyped.{AreWellTyped}
+use Rattle.krml_reader.specs.declared.refusal.ReadRefusal.{ReadRefusal}
+use Rattle.krml_reader.specs.declared.refusal.ReadRefusal.TheVariants as read
+use Rattle.krml_reader.specs.Read.{IsRefused}
+use Rattle.krml_types.specs.declared.refusal.TypeRefusal.{TypeRefusal}
+use Rattle.krml_types.specs.declared.refusal.TypeRefusal.TheVariants as types
+use Rattle.krml_types.specs.Check.{IsChecked}
+use Rattle.krml_command.specs.declared.request.Command.TheVariants.{C}
 use Rattle.krml_cli.specs.declared.refusal.FileRefusal.{FileRefusal}
 use Rattle.krml_cli.specs.declared.refusal.FileRefusal.TheVariants as refusal
 use Rattle.krml_cli.specs.declared.stop.Stop.{Stop}
 use Rattle.krml_cli.specs.declared.stop.Stop.TheVariants as stop
-use Rattle.krml_cli.specs.Ends.{IsCompile, Taken, CompilesTo, SpelledAlone, AppendsPrefix, WritesAll, Call, Unwritten, Stops, Ends, line_of, status_of}
-use Rattle.krml_syntax.specs.declared.tree.SourceFile.{SourceFile}
-use Rattle.krml_syntax.specs.File.{SpellsFile}
-use Rattle.krml_reader.specs.declared.refusal.ReadRefusal.{ReadRefusal}
-use Rattle.krml_reader.specs.declared.refusal.ReadRefusal.TheVariants as r
-use Rattle.krml_reader.specs.Read.{IsRefused}
-use Rattle.krml_cli.specs.First.{IsFirstFile, SpellsFirst}
-use Rattle.krml_cli.specs.Refusal.{Refuses, of_read}
-use Rattle.krml_ctree.specs.declared.tree.CProgram.{CProgram}
-use Rattle.krml_ctree.specs.Text.{text_of}
+use Rattle.krml_cli.specs.Accept.{IsAnswered, IsNotBuiltAt}
+use Rattle.krml_cli.specs.Built.{AreBuilt, first_unbuilt, IsFirstUnbuilt}
+use Rattle.krml_cli.specs.Ends.{CompilesTo, AppendsPrefix, WritesAll, Call, Unwritten, Stops, Ends, line_of, status_of}
+use Rattle.krml_cli.specs.First.{SpellsFirst}
+use Rattle.krml_cli.specs.Refusal.{Accepts, Refuses, of_read, of_type}
+use Rattle.krml_cli.specs.Steps.{IsText, Compiles, Answers, Runs, Notes, Reports}
 use Rattle.krml_cli.specs.Translation.{program_of}
 use Rattle.krml_ctree.specs.WellFormed.{WellFormed}
-use Rattle.krml_cli.specs.Steps.{Compiles, Runs, Notes, Reports, of_refusal}
-use Rattle.krml_cli.specs.Theorem.{IsImplementedBy}
 use Rattle.krml_cli.proofs.FirstRuns.{first_runs_are_done}
+use Rattle.krml_cli.proofs.Refusals.{asks_is_no_usage}
 use Rattle.krml_cli.proofs.SimulationFile.{first_files_compile}
+use Rattle.krml_cli.proofs.Unbuilt.{all_built}
 use Rattle.krml_cli.proofs.WellFormedProgram.{first_well_formed}
 
--- what is made of a text that was not read
-pub unread_by : (text : List ℕ) (why : ReadRefusal) (r : Result (Vec ℕ Global) FileRefusal) → IsErr r → IsErrAnd r (λ e. e ≡ of_read why) → IsRefused text (Err why) → Compiles text r
-unread_by text why (Ok x) is e a = absurd (true≢false (sym is))
-unread_by text why (Err w) is e a = subst (λ v. Compiles text (Err v)) (sym e) (at why a)
-  where
-    at : (why : ReadRefusal) → IsRefused text (Err why) → Compiles text (Err (of_read why))
-    at r.TooLarge a = Refuses.unread a
-    at (r.Syntax n) a = Refuses.unread a
-    at (r.Nesting n) a = Refuses.unread a
-    at (r.Shape n) a = Refuses.unread a
-    at (r.Limit kind n) a = Refuses.unread a
-    at r.NoMemory a = tt
+-- ---- accepting an input
 
--- what a command makes of an input that was taken and refused
-pub runs_by : (words : List (List ℕ)) (left left' : Option (List ℕ)) (reads reads' : ℕ) (input : List ℕ) (why : FileRefusal)
-    → IsCompile words → Taken left left' input → reads' ≡ reads → Compiles input (Err why) → Runs words left left' reads reads' (Err (of_refusal why))
-runs_by words left left' reads reads' input refusal.NoMemory w t q h = (w, q)
-runs_by words left left' reads reads' input refusal.NotBuilt w t q h = (w, (input, t, h), q)
-runs_by words left left' reads reads' input (refusal.Read why) w t q h = (w, (input, t, h), q)
+abbrev Answer : Type 0
+Answer = Result SourceFile FileRefusal
+
+refuses_by : (text : List ℕ) (why : FileRefusal) (r : Answer) → IsErr r → IsErrAnd r (λ e. e ≡ why) → IsAnswered text (Err why) → IsAnswered text r
+refuses_by text why (Ok file) is e h = absurd (true≢false (sym is))
+refuses_by text why (Err w) is e h = subst (λ v. IsAnswered text (Err v)) (sym e) h
+
+-- a text that was not read
+pub unread_by : (text : List ℕ) (why : ReadRefusal) (r : Answer) → IsErr r → IsErrAnd r (λ e. e ≡ of_read why) → IsRefused text (Err why) → IsAnswered text r
+unread_by text why r is e h = refuses_by text (of_read why) r is e (at why h)
+  where
+    at : (why : ReadRefusal) → IsRefused text (Err why) → IsAnswered text (Err (of_read why))
+    at read.TooLarge h = λ command. Refuses.unread h
+    at (read.Syntax n) h = λ command. Refuses.unread h
+    at (read.Nesting n) h = λ command. Refuses.unread h
+    at (read.Shape n) h = λ command. Refuses.unread h
+    at (read.Limit kind n) h = λ command. Refuses.unread h
+    at read.NoMemory h = tt
+
+-- one that spells a file with a definition that is not well typed
+pub ill_typed_by : (A : Type 0) (text : List ℕ) (file : SourceFile) (why : TypeRefusal) (r : Answer) → IsErr r → IsErrAnd r (λ e. e ≡ of_type why) → SpellsFile text file
+    → IsChecked {A = A} file.defs (Err why) → IsAnswered text r
+ill_typed_by A text file why r is e s h = refuses_by text (of_type why) r is e (at why h)
+  where
+    at : (why : TypeRefusal) → IsChecked {A = A} file.defs (Err why) → IsAnswered text (Err (of_type why))
+    at (types.Fault def) h = λ command. Refuses.ill_typed s h
+    at types.NoMemory h = tt
+
+-- or with one that is not built
+pub unbuilt_by : (text : List ℕ) (file typed seen : SourceFile) (why : FileRefusal) (k : ℕ) → SpellsFile text file → typed ≡ file → AreWellTyped file.defs → seen ≡ typed
+    → first_unbuilt seen.defs ≡ Some k → IsNotBuiltAt k why → IsAnswered text (Err why)
+unbuilt_by text file typed seen why k s e t f u h = at why h (subst (λ (z : SourceFile). IsFirstUnbuilt z.defs k) (f ∙ e) u)
+  where
+    at : (why : FileRefusal) → IsNotBuiltAt k why → IsFirstUnbuilt file.defs k → IsAnswered text (Err why)
+    at (refusal.NotBuilt def) h u = λ command. Refuses.not_built s t (u ∙ ap Some (sym h))
+    at refusal.NoMemory h u = tt
+    at (refusal.Read why) h u = absurd h
+    at (refusal.«Type» def) h u = absurd h
+    at refusal.NotFirst h u = absurd h
+
+-- one whose definitions are all well typed and built
+pub accepted_by : (text : List ℕ) (file typed seen : SourceFile) → SpellsFile text file → typed ≡ file → AreWellTyped file.defs → seen ≡ typed → first_unbuilt seen.defs ≡ None → Accepts text typed
+accepted_by text file typed seen s e t f n = record {
+  spelled = subst (SpellsFile text) (sym e) s;
+  typed = subst (λ (z : SourceFile). AreWellTyped z.defs) (sym e) t;
+  built = subst (λ (z : SourceFile). AreBuilt z.defs) f (all_built seen.defs n);
+}
+
+-- ---- the answer of a command
+
+-- what translating and printing made of a file that an input spells
+compiled_by : (input text : List ℕ) (file : SourceFile) → SpellsFile input file → IsText file text → CompilesTo input text
+compiled_by input text file spelled h =
+    let s : SpellsFirst input file = record { spelled = spelled; first = h.first } in
+    let well : WellFormed (program_of file) = first_well_formed input file s in
+    record {
+      file = file;
+      program = program_of file;
+      spelled = s;
+      translated = refl;
+      is = h.is;
+      well_formed = well;
+      alone = h.alone well;
+      implemented = first_files_compile input file s;
+      done = first_runs_are_done file;
+    }
+
+-- what is made of a file that is accepted
+pub compiles_by : (text : List ℕ) (file : SourceFile) (r : Result (Vec ℕ Global) FileRefusal) → Accepts text file → Compiles file r → Answers C text r
+compiles_by text file (Ok out) a h = compiled_by text out.items file a.spelled h
+compiles_by text file (Err refusal.NoMemory) a h = tt
+compiles_by text file (Err refusal.NotFirst) a h = Refuses.not_first a h
+compiles_by text file (Err (refusal.Read why)) a h = absurd h
+compiles_by text file (Err (refusal.«Type» def)) a h = absurd h
+compiles_by text file (Err (refusal.NotBuilt def)) a h = absurd h
 
 -- a call that stops before anything is written
 pub stops_by : (c : Call) (why : Stop) → Runs c.words c.left c.left' c.reads c.reads' (Err why) → Unwritten c → Stops c why
 stops_by c stop.Usage h u = Stops.usage h.0 h.1 h.2 u
-stops_by c stop.ReadFault h u = Stops.read_fault h.0 h.1 h.2 u
-stops_by c (stop.Refused why) h u = Stops.refused h.0 h.1.1 h.1.2 h.2 u
+stops_by c stop.ReadFault h u = Stops.read_fault h.0.1 h.1 h.2 u
+stops_by c (stop.Refused why) h u = let r = h.0 in Stops.refused r.asked r.taken r.refused h.1 u
 stops_by c stop.WriteFault h u = absurd h
 stops_by c stop.NoMemory h u = Stops.no_memory h.0 h.1 u
 
@@ -66,7 +130,7 @@ noted_by c why _ s (Notes.lacked_memory a q) = Ends.note_lacked_memory s a q
 
 -- where a call was refused it may lack memory
 lacks : (c : Call) (why : FileRefusal) → Stops c (stop.Refused why) → Stops c stop.NoMemory
-lacks c why (Stops.refused w t r q u) = Stops.no_memory w q u
+lacks c why (Stops.refused {command = command} w t r q u) = Stops.no_memory (λ h. absurd (asks_is_no_usage c.words command w h)) q u
 
 -- a call that stops and reports why
 pub ends_by : (c : Call) (why : Stop) (status : ℕ) → Stops c why → Reports c.noted c.noted' c.notes c.notes' status why → Ends c status
@@ -76,32 +140,14 @@ ends_by c _ status s (Reports.unmade {why = why} n) = noted_by c stop.NoMemory s
 -- a call whose whole output was written
 pub done_by : (c : Call) (text : Vec ℕ Global) (piece : List ℕ) → piece ≡ text.items → Runs c.words c.left c.left' c.reads c.reads' (Ok text) → Appends c.written c.written' piece × (c.writes' ≡ c.writes)
     → c.noted' ≡ c.noted → c.notes' ≡ c.notes → Ends c 0
-done_by c text piece e r w n m = Ends.done r.0 r.1 r.2 (subst (Appends c.written c.written') e w.0) w.1 n m
+done_by c text piece e r w n m = Ends.done r.0 r.1 (subst (Appends c.written c.written') e w.0) w.1 n m
 
 -- a call whose output failed
 pub failed_by : (c : Call) (text : Vec ℕ Global) (piece : List ℕ) → piece ≡ text.items → Runs c.words c.left c.left' c.reads c.reads' (Ok text) → WritesAll c.written c.written' c.writes c.writes' piece (Err fault.Failed)
     → Stops c stop.WriteFault
-failed_by c text piece e r w = Stops.write_fault r.0 r.1 r.2 (subst (AppendsPrefix c.written c.written') e w.0) w.1 w.2
+failed_by c text piece e r w = Stops.write_fault r.0 r.1 (subst (AppendsPrefix c.written c.written') e w.0) w.1 w.2
 
 -- a call whose output lacked memory
 pub lacked_by : (c : Call) (text : Vec ℕ Global) (piece : List ℕ) → piece ≡ text.items → Runs c.words c.left c.left' c.reads c.reads' (Ok text) → WritesAll c.written c.written' c.writes c.writes' piece (Err fault.NoMemory)
     → Stops c stop.NoMemory
-lacked_by c text piece e r w = Stops.no_memory_to_write r.0 r.1 r.2 (subst (AppendsPrefix c.written c.written') e w.0) w.1
-
--- what reading, translating and printing made of an input
-pub compiled_by : (input text : List ℕ) (file : SourceFile) (program : CProgram) → SpellsFile input file → IsFirstFile file → program ≡ program_of file → text ≡ text_of program
-    → (WellFormed program → SpelledAlone text program) → CompilesTo input text
-compiled_by input text file program spelled first p t alone =
-    let s : SpellsFirst input file = record { spelled = spelled; first = first } in
-    let well : WellFormed program = subst WellFormed (sym p) (first_well_formed input file s) in
-    record {
-      file = file;
-      program = program;
-      spelled = s;
-      translated = p;
-      is = t;
-      well_formed = well;
-      alone = alone well;
-      implemented = subst (IsImplementedBy file) (sym p) (first_files_compile input file s);
-      done = first_runs_are_done file;
-    }
+lacked_by c text piece e r w = Stops.no_memory_to_write r.0 r.1 (subst (AppendsPrefix c.written c.written') e w.0) w.1

@@ -1,9 +1,11 @@
 mod Clauses
 mod Ended
+mod FirstAccepted
 mod FirstFiles
 mod FirstRuns
 mod Known
 mod Listed
+mod Refusals
 mod Simulation
 mod SimulationCode
 mod SimulationFile
@@ -11,7 +13,7 @@ mod SimulationImages
 mod SimulationLimits
 mod SimulationLocals
 mod SimulationNames
+mod Unbuilt
 mod WellFormedProgram
 mod WellFormedProgramCode
 mod WellFormedProgramNames
-mod Word

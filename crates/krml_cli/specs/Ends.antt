@@ -1,5 +1,5 @@
 -- What a call of the program does at its three ends: the source, the output, the notes.
-use Rattle.std.specs.Prelude.{◌≡◌, ◌≢◌, ℕ, ◌+◌, ◌≤◌, ◌⊎◌, ◌↔◌, List, [], ◌∷◌, ◌++◌, length, codes, Option, Result, Ok, Err, Vec}
+use Rattle.std.specs.Prelude.{◌≡◌, ℕ, ◌+◌, ◌≤◌, ◌⊎◌, ◌↔◌, List, [], ◌++◌, length, codes, Option, Some, None, Result, Ok, Err, Vec}
 use Rattle.std.specs.declared.alloc.Global.{Global}
 use Rattle.std.specs.Io.KnownBytes.{Consumes, Appends, IsAtEnd}
 use Rattle.krml_trace.specs.Outside.{Rose}
@@ -14,10 +14,14 @@ use Rattle.krml_ctree.specs.declared.tree.CProgram.{CProgram}
 use Rattle.krml_ctree.specs.Spelling.{SpellsProgram}
 use Rattle.krml_ctree.specs.Text.{text_of}
 use Rattle.krml_ctree.specs.WellFormed.{WellFormed}
+use Rattle.krml_command.specs.declared.request.Command.{Command}
+use Rattle.krml_command.specs.declared.request.Command.TheVariants.{C, Check}
+use Rattle.krml_command.specs.declared.request.Request.{Request}
+use Rattle.krml_command.specs.Request.{request_of}
 use Rattle.krml_cli.specs.declared.stop.Stop.{Stop}
 use Rattle.krml_cli.specs.declared.stop.Stop.TheVariants as stop
 use Rattle.krml_cli.specs.declared.refusal.FileRefusal.{FileRefusal}
-use Rattle.krml_cli.specs.Refusal.{Refuses, refusal_line}
+use Rattle.krml_cli.specs.Refusal.{Accepts, Refuses, refusal_line}
 use Rattle.krml_cli.specs.Theorem.{IsImplementedBy, IsDone}
 use Rattle.krml_cli.specs.Translation.{program_of}
 
@@ -51,16 +55,15 @@ TakesInput left left' faults faults' (Err stop.ReadFault) = (faults ≤ faults')
 TakesInput left left' faults faults' (Err stop.NoMemory) = faults' ≡ faults
 TakesInput left left' faults faults' (Err _) = ⊥
 
--- The one command.
-abbrev pub IsCompile : List (List ℕ) → Type 0
-IsCompile words = words ≡ codes "c" ∷ []
+-- The words ask for a command. No pass is stored.
+pub record Asks (words : List (List ℕ)) (command : Command) : Type 0 where
+  pub request : Request
+  pub is : request_of [] words ≡ Some request
+  pub asked : request.command ≡ command
 
+-- The words ask for none.
 abbrev pub IsUsage : List (List ℕ) → Type 0
-IsUsage words = words ≢ codes "c" ∷ []
-
--- An input spells no first file.
-abbrev pub SpellsNoFirst : List ℕ → Type 0
-SpellsNoFirst input = (file : SourceFile) → SpellsFirst input file → ⊥
+IsUsage words = request_of [] words ≡ None
 
 -- A text spells a program, and no other.
 abbrev pub SpelledAlone : List ℕ → CProgram → Type 0
@@ -79,11 +82,34 @@ pub record CompilesTo (input text : List ℕ) : Type 0 where
   pub implemented : IsImplementedBy file program
   pub done : IsFirstFile file → (entry : List ℕ) (args : Arguments) (bound : Bound) → ArgumentsFit file entry args → IsDone (source_run file entry args bound).outcome
 
--- The input was taken, and compiles to this text.
-pub record IsOutput (left left' : Option (List ℕ)) (text : List ℕ) : Type 0 where
+-- An input is accepted, as some file.
+abbrev pub IsAccepted : List ℕ → Type 0
+IsAccepted input = (file : SourceFile) × Accepts input file
+
+-- what `check` writes
+abbrev pub accepted_line : List ℕ
+accepted_line = codes "accepted\n"
+
+-- A command makes a text of an input.
+abbrev pub Makes : Command → List ℕ → List ℕ → Type 0
+Makes C input text = CompilesTo input text
+Makes Check input text = IsAccepted input × (text ≡ accepted_line)
+
+-- A command serves an input that spells a file: `c` a first one, and `check` one that is accepted.
+abbrev pub Serves : Command → List ℕ → SourceFile → Type 0
+Serves C input file = SpellsFirst input file
+Serves Check input file = Accepts input file
+
+abbrev pub ServesNone : Command → List ℕ → Type 0
+ServesNone command input = (file : SourceFile) → Serves command input file → ⊥
+
+-- The words ask for a command, the input was taken, and the command makes this text of it.
+pub record IsOutput (words : List (List ℕ)) (left left' : Option (List ℕ)) (text : List ℕ) : Type 0 where
+  pub command : Command
   pub input : List ℕ
+  pub asked : Asks words command
   pub taken : Taken left left' input
-  pub compiled : CompilesTo input text
+  pub made : Makes command input text
 
 abbrev pub status_of : Stop → ℕ
 status_of (stop.Refused why) = 1
@@ -123,18 +149,19 @@ pub record Unwritten (c : Call) : Type 0 where
 -- What was read and written where a call stops.
 pub data Stops (c : Call) : Stop → Type 0 where
   usage : IsUsage c.words → c.left' ≡ c.left → c.reads' ≡ c.reads → Unwritten c → Stops c stop.Usage
-  read_fault : IsCompile c.words → c.reads ≤ c.reads' → Rose c.reads c.reads' → Unwritten c → Stops c stop.ReadFault
-  refused : {input : List ℕ} {why : FileRefusal} → IsCompile c.words → Taken c.left c.left' input → Refuses input why → c.reads' ≡ c.reads → Unwritten c → Stops c (stop.Refused why)
-  write_fault : {text : List ℕ} → IsCompile c.words → IsOutput c.left c.left' text → c.reads' ≡ c.reads
+  read_fault : {command : Command} → Asks c.words command → c.reads ≤ c.reads' → Rose c.reads c.reads' → Unwritten c → Stops c stop.ReadFault
+  refused : {command : Command} {input : List ℕ} {why : FileRefusal} → Asks c.words command → Taken c.left c.left' input → Refuses input command why
+      → c.reads' ≡ c.reads → Unwritten c → Stops c (stop.Refused why)
+  write_fault : {text : List ℕ} → IsOutput c.words c.left c.left' text → c.reads' ≡ c.reads
       → AppendsPrefix c.written c.written' text → c.writes ≤ c.writes' → Rose c.writes c.writes' → Stops c stop.WriteFault
-  no_memory : IsCompile c.words → c.reads' ≡ c.reads → Unwritten c → Stops c stop.NoMemory
-  no_memory_to_write : {text : List ℕ} → IsCompile c.words → IsOutput c.left c.left' text → c.reads' ≡ c.reads
+  no_memory : (IsUsage c.words → c.left' ≡ c.left) → c.reads' ≡ c.reads → Unwritten c → Stops c stop.NoMemory
+  no_memory_to_write : {text : List ℕ} → IsOutput c.words c.left c.left' text → c.reads' ≡ c.reads
       → AppendsPrefix c.written c.written' text → c.writes' ≡ c.writes → Stops c stop.NoMemory
 
 -- How a call ends.
 pub data Ends (c : Call) : ℕ → Type 0 where
   -- with its output
-  done : {text : List ℕ} → IsCompile c.words → IsOutput c.left c.left' text → c.reads' ≡ c.reads → Appends c.written c.written' text → c.writes' ≡ c.writes
+  done : {text : List ℕ} → IsOutput c.words c.left c.left' text → c.reads' ≡ c.reads → Appends c.written c.written' text → c.writes' ≡ c.writes
       → c.noted' ≡ c.noted → c.notes' ≡ c.notes → Ends c 0
   -- with the line of what stopped it
   noted : {why : Stop} → Stops c why → Appends c.noted c.noted' (line_of why) → c.notes' ≡ c.notes → Ends c (status_of why)
@@ -147,8 +174,8 @@ abbrev pub FailedNotes : ℕ → ℕ → ℕ → Type 0
 FailedNotes status notes notes' = (status ≡ 4) × Rose notes notes'
 
 -- Nothing was written to the output, or a prefix of the text that was to come.
-abbrev pub PrefixOnly : (left left' written written' : Option (List ℕ)) → Type 0
-PrefixOnly left left' written written' = (written' ≡ written) ⊎ ((text : List ℕ) × IsOutput left left' text × AppendsPrefix written written' text)
+abbrev pub PrefixOnly : (words : List (List ℕ)) (left left' written written' : Option (List ℕ)) → Type 0
+PrefixOnly words left left' written written' = (written' ≡ written) ⊎ ((text : List ℕ) × IsOutput words left left' text × AppendsPrefix written written' text)
 
 -- A line of the notes.
 abbrev pub IsLine : List ℕ → Type 0
@@ -168,17 +195,30 @@ IsCut status = (status ≡ 4) ⊎ (status ≡ 5)
 
 -- The input was taken, and the text that it compiles to was appended.
 pub record Compiled (left left' written written' : Option (List ℕ)) : Type 0 where
+  pub input : List ℕ
   pub text : List ℕ
-  pub output : IsOutput left left' text
+  pub taken : Taken left left' input
+  pub compiled : CompilesTo input text
   pub appended : Appends written written' text
 
--- The input was taken and spells no first file, and the line of the one refusal that it meets was noted.
-pub record Refused (left left' noted noted' : Option (List ℕ)) : Type 0 where
+-- The input was taken, it is accepted, and that was said.
+pub record Accepted (left left' written written' : Option (List ℕ)) : Type 0 where
+  pub input : List ℕ
+  pub file : SourceFile
+  pub taken : Taken left left' input
+  pub accepted : Accepts input file
+  pub appended : Appends written written' accepted_line
+
+-- The input was taken, the command that the words ask for does not serve it, and the line of the one refusal that it
+-- meets was noted.
+pub record Refused (words : List (List ℕ)) (left left' noted noted' : Option (List ℕ)) : Type 0 where
+  pub command : Command
   pub input : List ℕ
   pub why : FileRefusal
+  pub asked : Asks words command
   pub taken : Taken left left' input
-  pub refused : Refuses input why
-  pub none : SpellsNoFirst input
+  pub refused : Refuses input command why
+  pub none : ServesNone command input
   pub line : Appends noted noted' (line_of (stop.Refused why))
 
 -- A call was refused for this, and its line was noted.

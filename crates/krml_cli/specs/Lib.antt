@@ -1,3 +1,5 @@
+pub mod Accept
+pub mod Built
 pub mod Emitting
 pub mod Ends
 pub mod First

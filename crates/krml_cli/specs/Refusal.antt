@@ -1,26 +1,47 @@
--- Why an input is refused, and the words for it.
+-- Which inputs are accepted, why an input is refused, and the words for it.
 use Rattle.std.specs.Prelude.{ℕ, List, ◌++◌, codes, Err}
 use Rattle.std.specs.Fmt.{decimal}
 use Rattle.krml_syntax.specs.declared.limit.LimitKind.{LimitKind}
 use Rattle.krml_syntax.specs.declared.limit.LimitKind.TheVariants as k
 use Rattle.krml_syntax.specs.declared.tree.SourceFile.{SourceFile}
 use Rattle.krml_syntax.specs.File.{SpellsFile}
+use Rattle.krml_ast.specs.WellTyped.{AreWellTyped}
 use Rattle.krml_reader.specs.declared.refusal.ReadRefusal.{ReadRefusal}
 use Rattle.krml_reader.specs.declared.refusal.ReadRefusal.TheVariants as r
 use Rattle.krml_reader.specs.Read.{Reads}
+use Rattle.krml_types.specs.declared.refusal.TypeRefusal.{TypeRefusal}
+use Rattle.krml_types.specs.declared.refusal.TypeRefusal.TheVariants as y
+use Rattle.krml_types.specs.Check.{IsFirstFault}
+use Rattle.krml_command.specs.declared.request.Command.{Command}
+use Rattle.krml_command.specs.declared.request.Command.TheVariants.{C}
 use Rattle.krml_cli.specs.declared.refusal.FileRefusal.{FileRefusal}
-use Rattle.krml_cli.specs.declared.refusal.FileRefusal.TheVariants.{Read, NotBuilt, NoMemory}
+use Rattle.krml_cli.specs.declared.refusal.FileRefusal.TheVariants.{Read, «Type» as IllTyped, NotBuilt, NotFirst, NoMemory}
+use Rattle.krml_cli.specs.Built.{AreBuilt, IsFirstUnbuilt}
 use Rattle.krml_cli.specs.First.{IsFirstFile}
 
--- An input is refused: it is not read, or what it spells is no first file.
-pub data Refuses (input : List ℕ) : FileRefusal → Type 0 where
-  unread : {why : ReadRefusal} → Reads input (Err why) → Refuses input (Read why)
-  not_built : {file : SourceFile} → SpellsFile input file → (IsFirstFile file → ⊥) → Refuses input NotBuilt
+-- An input is accepted: it spells a file within the limits, and each definition is well typed and built.
+pub record Accepts (input : List ℕ) (file : SourceFile) : Type 0 where
+  pub spelled : SpellsFile input file
+  pub typed : AreWellTyped file.defs
+  pub built : AreBuilt file.defs
 
--- want of memory while reading is want of memory
+-- A command refuses an input: it is not read, or the first definition of what it spells that is not well typed, or else
+-- not built, is this one, or the file that it spells is accepted, but no first one, and is to be compiled.
+pub data Refuses (input : List ℕ) : Command → FileRefusal → Type 0 where
+  unread : {command : Command} {why : ReadRefusal} → Reads input (Err why) → Refuses input command (Read why)
+  ill_typed : {command : Command} {file : SourceFile} {def : ℕ} → SpellsFile input file → IsFirstFault file.defs def → Refuses input command (IllTyped def)
+  not_built : {command : Command} {file : SourceFile} {def : ℕ} → SpellsFile input file → AreWellTyped file.defs → IsFirstUnbuilt file.defs def
+      → Refuses input command (NotBuilt def)
+  not_first : {file : SourceFile} → Accepts input file → (IsFirstFile file → ⊥) → Refuses input C NotFirst
+
+-- want of memory while reading, or while checking types, is want of memory
 abbrev pub of_read : ReadRefusal → FileRefusal
 of_read r.NoMemory = NoMemory
 of_read why = Read why
+
+abbrev pub of_type : TypeRefusal → FileRefusal
+of_type (y.Fault def) = IllTyped def
+of_type y.NoMemory = NoMemory
 
 abbrev pub kind_word : LimitKind → List ℕ
 kind_word k.Definitions = codes "definitions"
@@ -42,7 +63,9 @@ read_words r.NoMemory = codes "out of memory"
 
 abbrev pub refusal_words : FileRefusal → List ℕ
 refusal_words (Read why) = read_words why
-refusal_words NotBuilt = codes "not built"
+refusal_words (IllTyped def) = codes "type fault in definition " ++ decimal def
+refusal_words (NotBuilt def) = codes "not built " ++ decimal def
+refusal_words NotFirst = codes "not built"
 refusal_words NoMemory = codes "out of memory"
 
 abbrev pub refusal_line : FileRefusal → List ℕ

@@ -3,32 +3,65 @@ use Rattle.std.specs.Prelude.{◌≡◌, ℕ, ◌≤◌, List, Option, Result, O
 use Rattle.std.specs.declared.alloc.Global.{Global}
 use Rattle.std.specs.Io.KnownBytes.{Appends}
 use Rattle.krml_trace.specs.Outside.{Rose}
+use Rattle.krml_syntax.specs.declared.tree.SourceFile.{SourceFile}
+use Rattle.krml_ctree.specs.Text.{text_of}
+use Rattle.krml_ctree.specs.WellFormed.{WellFormed}
+use Rattle.krml_command.specs.declared.refusal.WordsRefusal.{WordsRefusal}
+use Rattle.krml_command.specs.declared.refusal.WordsRefusal.TheVariants as words
+use Rattle.krml_command.specs.declared.request.Command.{Command}
 use Rattle.krml_cli.specs.declared.refusal.FileRefusal.{FileRefusal}
 use Rattle.krml_cli.specs.declared.refusal.FileRefusal.TheVariants as refusal
 use Rattle.krml_cli.specs.declared.stop.Stop.{Stop}
 use Rattle.krml_cli.specs.declared.stop.Stop.TheVariants as stop
-use Rattle.krml_cli.specs.Ends.{IsCompile, IsUsage, Taken, CompilesTo, IsOutput, AppendsPrefix, status_of, line_of}
+use Rattle.krml_cli.specs.Ends.{Asks, IsUsage, Taken, SpelledAlone, Makes, IsOutput, AppendsPrefix, status_of, line_of}
+use Rattle.krml_cli.specs.First.{IsFirstFile}
 use Rattle.krml_cli.specs.Refusal.{Refuses}
+use Rattle.krml_cli.specs.Translation.{program_of}
 
--- What is made of an input.
-abbrev pub Compiles : List ℕ → Result (Vec ℕ Global) FileRefusal → Type 0
-Compiles input (Ok text) = CompilesTo input text.items
-Compiles input (Err refusal.NoMemory) = Unit {0}
-Compiles input (Err why) = Refuses input why
+-- The C text of a first file. Where it is well formed, no other program has this text.
+pub record IsText (file : SourceFile) (text : List ℕ) : Type 0 where
+  pub first : IsFirstFile file
+  pub is : text ≡ text_of (program_of file)
+  pub alone : WellFormed (program_of file) → SpelledAlone text (program_of file)
+
+-- What is made of a file.
+abbrev pub Compiles : SourceFile → Result (Vec ℕ Global) FileRefusal → Type 0
+Compiles file (Ok text) = IsText file text.items
+Compiles file (Err refusal.NoMemory) = Unit {0}
+Compiles file (Err refusal.NotFirst) = IsFirstFile file → ⊥
+Compiles file (Err _) = ⊥
+
+-- What a command answers to an input.
+abbrev pub Answers : Command → List ℕ → Result (Vec ℕ Global) FileRefusal → Type 0
+Answers command input (Ok text) = Makes command input text.items
+Answers command input (Err refusal.NoMemory) = Unit {0}
+Answers command input (Err why) = Refuses input command why
 
 -- a refusal for want of memory is want of memory
 abbrev pub of_refusal : FileRefusal → Stop
 of_refusal refusal.NoMemory = stop.NoMemory
 of_refusal why = stop.Refused why
 
+abbrev pub of_words : WordsRefusal → Stop
+of_words words.Usage = stop.Usage
+of_words words.NoMemory = stop.NoMemory
+
+-- The words ask for a command, the input was taken, and the command refuses it.
+pub record IsRefused (words : List (List ℕ)) (left left' : Option (List ℕ)) (why : FileRefusal) : Type 0 where
+  pub command : Command
+  pub input : List ℕ
+  pub asked : Asks words command
+  pub taken : Taken left left' input
+  pub refused : Refuses input command why
+
 -- What a command makes of the words and the source.
 abbrev pub Runs : List (List ℕ) → (left left' : Option (List ℕ)) (reads reads' : ℕ) → Result (Vec ℕ Global) Stop → Type 0
-Runs words left left' reads reads' (Ok text) = IsCompile words × IsOutput left left' text.items × (reads' ≡ reads)
+Runs words left left' reads reads' (Ok text) = IsOutput words left left' text.items × (reads' ≡ reads)
 Runs words left left' reads reads' (Err stop.Usage) = IsUsage words × (left' ≡ left) × (reads' ≡ reads)
-Runs words left left' reads reads' (Err stop.ReadFault) = IsCompile words × (reads ≤ reads') × Rose reads reads'
-Runs words left left' reads reads' (Err (stop.Refused why)) = IsCompile words × ((input : List ℕ) × Taken left left' input × Refuses input why) × (reads' ≡ reads)
+Runs words left left' reads reads' (Err stop.ReadFault) = ((command : Command) × Asks words command) × (reads ≤ reads') × Rose reads reads'
+Runs words left left' reads reads' (Err (stop.Refused why)) = IsRefused words left left' why × (reads' ≡ reads)
 Runs words left left' reads reads' (Err stop.WriteFault) = ⊥
-Runs words left left' reads reads' (Err stop.NoMemory) = IsCompile words × (reads' ≡ reads)
+Runs words left left' reads reads' (Err stop.NoMemory) = (IsUsage words → left' ≡ left) × (reads' ≡ reads)
 
 -- The status behind a line that was written to the notes, where the whole line has a status of its own.
 pub data Notes (noted noted' : Option (List ℕ)) (notes notes' : ℕ) (line : List ℕ) (own : ℕ) : ℕ → Type 0 where

@@ -3,14 +3,16 @@ ghost use Rattle.std.specs.String.{string_bytes};
 ghost use Rattle.std.specs.Io.KnownBytes.{Appends, Keeps};
 ghost use Rattle.krml_trace.specs.Outside.{Rose};
 ghost use Rattle.krml_syntax.specs.declared.tree.SourceFile.{SourceFile};
+ghost use Rattle.krml_command.specs.declared.request.Command.{Command};
+ghost use Rattle.krml_command.specs.declared.request.Command.TheVariants.{C, Check};
 ghost use Rattle.krml_cli.specs.declared.refusal.FileRefusal.{FileRefusal};
 ghost use Rattle.krml_cli.specs.declared.stop.Stop.{Stop};
 ghost use Rattle.krml_cli.specs.declared.stop.Stop.TheVariants as stop;
-ghost use Rattle.krml_cli.specs.Ends.{IsCompile, IsUsage, SpellsNoFirst, Compiled, Refused, RefusedFor, FailedNotes, PrefixOnly, AppendsPrefix, IsNoted, IsPlain, IsCut, IsLine, status_of, line_of, Ends};
-ghost use Rattle.krml_cli.specs.First.{SpellsFirst};
+ghost use Rattle.krml_cli.specs.Ends.{Asks, IsUsage, Serves, ServesNone, Compiled, Accepted, Refused, RefusedFor, FailedNotes, PrefixOnly, AppendsPrefix, IsNoted, IsPlain, IsCut, IsLine, status_of, line_of, Ends};
 ghost use Rattle.krml_cli.specs.Refusal.{Refuses};
-ghost use Rattle.krml_cli.specs.Steps.{Compiles, Runs, Notes, Reports};
+ghost use Rattle.krml_cli.specs.Steps.{Compiles, Answers, Runs, Notes, Reports};
 
+use crate::accept::accept;
 use crate::first::is_first_file;
 use crate::input::read_input;
 use crate::output::write_all;
@@ -18,41 +20,41 @@ use crate::print::print;
 use crate::refusal::{FileRefusal, refusal_line};
 use crate::stop::Stop;
 use crate::translate::translate;
-use krml_reader::{one_answer, read_file};
+use krml_ast::SourceFile;
+use krml_command::{Command, read_words};
+use krml_reader::one_answer;
 use krml_trace::{Sink, SinkFault, Source};
 use std::alloc::{AllocError, Global};
 
-/// The C text of a source text.
-fn compile(alloc: Global, text: &[u8]) -> Result<Vec<u8>, FileRefusal>
-    ensures { Compiles text.now result }
+/// The C text of a file.
+fn compile(alloc: Global, file: &SourceFile) -> Result<Vec<u8>, FileRefusal>
+    ensures { Compiles file.now result }
 {
-    let file = read_file(alloc, text)?;
-    if !is_first_file(&file) {
-        return Err(FileRefusal::NotBuilt);
+    if !is_first_file(file) {
+        return Err(FileRefusal::NotFirst);
     }
-    let program = translate(alloc, &file)?;
+    let program = translate(alloc, file)?;
     Ok(print(alloc, &program)?)
 }
 
-/// Whether the words are the one word `c`.
-fn is_compile(words: &[String]) -> bool
-    ensures { IsTrue result ↔ IsCompile (map string_bytes words.now) }
+/// What a command writes of a source text.
+fn answer(alloc: Global, command: Command, text: &[u8]) -> Result<Vec<u8>, FileRefusal>
+    ensures { Answers command text.now result }
 {
-    match words {
-        [word] => word.as_str() == "c",
-        _ => false,
+    let typed = accept(alloc, text)?;
+    match command {
+        Command::C => compile(alloc, typed.file()),
+        Command::Check => Ok(Vec::from_slice(alloc, b"accepted\n")?),
     }
 }
 
-/// What the command that the words give is to write.
+/// What the command that the words ask for is to write.
 fn run<S: Source>(alloc: Global, words: &[String], source: &mut S) -> Result<Vec<u8>, Stop>
     ensures { Runs (map string_bytes words.now) (S.left source.old) (S.left source.new) (S.faults source.old) (S.faults source.new) result }
 {
-    if !is_compile(words) {
-        return Err(Stop::Usage);
-    }
+    let command = read_words(alloc, words)?.command;
     let text = read_input(alloc, source)?;
-    Ok(compile(alloc, text.as_slice())?)
+    Ok(answer(alloc, command, text.as_slice())?)
 }
 
 /// Writes a line to the notes, and gives its status, or that of what failed.
@@ -115,13 +117,14 @@ fn command<S: Source, K: Sink, E: Sink>(
     }
 }
 
-/// Runs the command that the words give: `c` reads a source text and writes its C text. Gives the status.
+/// Runs the command that the words ask for, over the text of `source`: `c` writes the C text of a first file, and `check`
+/// writes `accepted` where the text is accepted. Gives the status.
 ///
 /// | Status | Comes | Line on `notes` |
 /// |---|---|---|
 /// | 0 | the output was written | none |
-/// | 1 | the input is refused: it is not read, or the file that it spells is no first one | `krml: refused: ` and why |
-/// | 2 | the words are not the one word `c` | `krml: usage` |
+/// | 1 | the input is refused: it is not read, ill typed or not built, or for `c` no first file | `krml: refused: ` and why |
+/// | 2 | the words ask for no command | `krml: usage` |
 /// | 3 | the source's count of faults rose | `krml: read fault` |
 /// | 4 | the count of `out` or of `notes` rose | `krml: write fault`, tried where `out` failed |
 /// | 5 | want of memory | `krml: out of memory` |
@@ -134,24 +137,27 @@ pub fn krml<S: Source, K: Sink, E: Sink>(
 ) -> u8
     ensures known { result ≤ 5 }
 
-    // With status 0 the input was read to its end, it spells a first file, and the text of its program was written, which
+    // With status 0 of `c` the input was read to its end, it spells a first file, and the text of its program was written, which
     // does what the file does: the same outcome, and the image of its events, wherever the file is not stuck.
-    ensures compiled { result ≡ 0 → Compiled (S.left source.old) (S.left source.new) (K.written out.old) (K.written out.new) }
-    // With status 1 it spells none, and why it is refused was noted.
-    ensures refused { result ≡ 1 → Refused (S.left source.old) (S.left source.new) (E.written notes.old) (E.written notes.new) }
+    ensures compiled { Asks (map string_bytes words.now) C → result ≡ 0 → Compiled (S.left source.old) (S.left source.new) (K.written out.old) (K.written out.new) }
+    // With status 0 of `check` it spells a file whose definitions are well typed and built, and `accepted` was written.
+    ensures accepted { Asks (map string_bytes words.now) Check → result ≡ 0 → Accepted (S.left source.old) (S.left source.new) (K.written out.old) (K.written out.new) }
+    // With status 1 the command does not serve it, and why it is refused was noted.
+    ensures refused { result ≡ 1 → Refused (map string_bytes words.now) (S.left source.old) (S.left source.new) (E.written notes.old) (E.written notes.new) }
 
-    // Where no count rose, a first file is compiled, and every other input is refused, unless memory runs out.
-    ensures completes { (input : List ℕ) (file : SourceFile) → IsCompile (map string_bytes words.now) → S.left source.old ≡ Some input → SpellsFirst input file
+    // Where no count rose, an input that the command serves gets its output, and every other one is refused, unless memory
+    // runs out: `c` serves first files, and `check` those that are accepted.
+    ensures completes { (command : Command) (input : List ℕ) (file : SourceFile) → Asks (map string_bytes words.now) command → S.left source.old ≡ Some input → Serves command input file
         → (Rose (S.faults source.old) (S.faults source.new) → ⊥) → (Rose (K.faults out.old) (K.faults out.new) → ⊥) → (Rose (E.faults notes.old) (E.faults notes.new) → ⊥)
         → (result ≡ 0) ⊎ (result ≡ 5) }
-    ensures refuses { (input : List ℕ) → IsCompile (map string_bytes words.now) → S.left source.old ≡ Some input → SpellsNoFirst input
+    ensures refuses { (command : Command) (input : List ℕ) → Asks (map string_bytes words.now) command → S.left source.old ≡ Some input → ServesNone command input
         → (Rose (S.faults source.old) (S.faults source.new) → ⊥) → (Rose (K.faults out.old) (K.faults out.new) → ⊥) → (Rose (E.faults notes.old) (E.faults notes.new) → ⊥)
         → (result ≡ 1) ⊎ (result ≡ 5) }
-    ensures refuses_for { (input : List ℕ) (why : FileRefusal) → IsCompile (map string_bytes words.now) → S.left source.old ≡ Some input → Refuses input why
+    ensures refuses_for { (command : Command) (input : List ℕ) (why : FileRefusal) → Asks (map string_bytes words.now) command → S.left source.old ≡ Some input → Refuses input command why
         → (Rose (S.faults source.old) (S.faults source.new) → ⊥) → (Rose (K.faults out.old) (K.faults out.new) → ⊥) → (Rose (E.faults notes.old) (E.faults notes.new) → ⊥)
         → RefusedFor why result (E.written notes.old) (E.written notes.new) ⊎ (result ≡ 5) }
 
-    // Other words than `c` are usage, and nothing is read.
+    // Words that ask for no command are usage, and nothing is read.
     ensures usage { result ≡ 2 → IsUsage (map string_bytes words.now) }
     ensures usage_always { IsUsage (map string_bytes words.now) → (result ≡ 2) ⊎ FailedNotes result (E.faults notes.old) (E.faults notes.new) ⊎ (result ≡ 5) }
     ensures unread { IsUsage (map string_bytes words.now) → (S.left source.new ≡ S.left source.old) × (S.faults source.new ≡ S.faults source.old) }
@@ -165,7 +171,7 @@ pub fn krml<S: Source, K: Sink, E: Sink>(
 
     // What was written where no output, or only a prefix of it, was.
     ensures silent { IsNoted result → Keeps (K.written out.old) (K.written out.new) }
-    ensures prefix { IsCut result → PrefixOnly (S.left source.old) (S.left source.new) (K.written out.old) (K.written out.new) }
+    ensures prefix { IsCut result → PrefixOnly (map string_bytes words.now) (S.left source.old) (S.left source.new) (K.written out.old) (K.written out.new) }
 
     // The notes get the status's line, a prefix of a line, or nothing.
     ensures noted { (why : Stop) → IsPlain result → result ≡ status_of why → Appends (E.written notes.old) (E.written notes.new) (line_of why) }

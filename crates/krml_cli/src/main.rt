@@ -1,6 +1,8 @@
 //! The program krml: a compiler of a small language to C.
 #![tactic(auto)]
 
+mod accept;
+mod built;
 mod count;
 mod emitter;
 mod first;
@@ -14,10 +16,9 @@ mod scope;
 mod stop;
 #[cfg(test)]
 mod tests;
-
+mod translate;
 #[cfg(test)]
 mod typing_tests;
-mod translate;
 
 use krml::krml;
 use krml_trace::{RealSink, RealSource};

@@ -1,20 +1,45 @@
 ghost use Rattle.std.specs.Prelude.{◌≡◌, IfOk};
 ghost use Rattle.std.specs.String.{string_bytes};
+ghost use Rattle.krml_cli.specs.Accept.{IsNotBuiltAt};
 ghost use Rattle.krml_cli.specs.Refusal.{kind_word, read_words, refusal_words, refusal_line};
 
 use krml_ast::LimitKind;
 use krml_reader::ReadRefusal;
 use krml_trace::NoMemory;
+use krml_types::TypeRefusal;
 use std::alloc::Global;
+use thiserror::Error;
 
-/// Why a file is not compiled.
-#[derive(Debug, Drop)]
+/// Why a source text is refused. The cause that stands first here is answered, where there are several.
+#[derive(Debug, Drop, Error)]
 pub enum FileRefusal {
     /// The text spells no file within the limits.
+    #[error(transparent)]
     Read(ReadRefusal),
-    /// The file is of no part of the language that is built.
-    NotBuilt,
+    /// The first definition that is not well typed, by its place from 0.
+    #[error("definition {def} is not well typed")]
+    Type { def: u32 },
+    /// The first definition outside the part of the language that is built, by its place from 0.
+    #[error("definition {def} is not built")]
+    NotBuilt { def: u32 },
+    /// The file is no first one, and is to be compiled.
+    #[error("the file is not built")]
+    NotFirst,
+    #[error("out of memory")]
     NoMemory,
+}
+
+impl FileRefusal {
+    /// The refusal for the definition of a place, which is not built. No file within the limits has so many definitions
+    /// that a place does not fit: that would be want of memory.
+    pub fn not_built(place: usize) -> FileRefusal
+        ensures { IsNotBuiltAt place result }
+    {
+        match u32::try_from(place) {
+            Ok(def) => FileRefusal::NotBuilt { def },
+            Err(_) => FileRefusal::NoMemory,
+        }
+    }
 }
 
 impl From<ReadRefusal> for FileRefusal {
@@ -27,6 +52,20 @@ impl From<ReadRefusal> for FileRefusal {
         match why {
             ReadRefusal::NoMemory => FileRefusal::NoMemory,
             _ => FileRefusal::Read(why),
+        }
+    }
+}
+
+impl From<TypeRefusal> for FileRefusal {
+    ghost use Rattle.std.specs.Prelude.{◌≡◌};
+    ghost use Rattle.krml_cli.specs.Refusal.{of_type};
+
+    ghost from_gives = { λ why e. e ≡ of_type why };
+
+    fn from(why: TypeRefusal) -> FileRefusal {
+        match why {
+            TypeRefusal::Fault { def } => FileRefusal::Type { def },
+            TypeRefusal::NoMemory => FileRefusal::NoMemory,
         }
     }
 }
@@ -78,7 +117,9 @@ fn refusal_words(alloc: Global, why: &FileRefusal) -> Result<String, NoMemory>
 {
     match why {
         FileRefusal::Read(why) => read_words(alloc, why),
-        FileRefusal::NotBuilt => String::from_str(alloc, "not built"),
+        FileRefusal::Type { def } => format!(in alloc; "type fault in definition {def}"),
+        FileRefusal::NotBuilt { def } => format!(in alloc; "not built {def}"),
+        FileRefusal::NotFirst => String::from_str(alloc, "not built"),
         FileRefusal::NoMemory => String::from_str(alloc, "out of memory"),
     }
 }

@@ -1,4 +1,5 @@
 use crate::refusal::FileRefusal;
+use krml_command::WordsRefusal;
 
 /// Why a command ended without its output.
 #[derive(Debug, Drop)]
@@ -21,6 +22,20 @@ impl From<FileRefusal> for Stop {
         match why {
             FileRefusal::NoMemory => Stop::NoMemory,
             _ => Stop::Refused(why),
+        }
+    }
+}
+
+impl From<WordsRefusal> for Stop {
+    ghost use Rattle.std.specs.Prelude.{◌≡◌};
+    ghost use Rattle.krml_cli.specs.Steps.{of_words};
+
+    ghost from_gives = { λ why e. e ≡ of_words why };
+
+    fn from(why: WordsRefusal) -> Stop {
+        match why {
+            WordsRefusal::Usage => Stop::Usage,
+            WordsRefusal::NoMemory => Stop::NoMemory,
         }
     }
 }

@@ -94,13 +94,165 @@ fn faults(rt: HostRuntime) -> Result<(), Fail> {
 }
 
 #[test]
-fn usage(rt: HostRuntime) -> Result<(), Fail> {
-    let cases: [&[&str]; 4] = [&[], &["C"], &["c", "f"], &["--help"]];
-    for words in cases {
+fn command_lines(rt: HostRuntime) -> Result<(), Fail> {
+    let cases: [(&[&str], u8); 31] = [
+        (&["c"], 0),
+        (&["check"], 0),
+        (&["--", "c"], 0),
+        (&["check", "--"], 0),
+        (&["--pages", "4", "c"], 0),
+        (
+            &[
+                "check",
+                "--pages=4",
+                "--bound=0",
+                "--depth",
+                "100",
+                "--trace",
+            ],
+            0,
+        ),
+        (
+            &[
+                "--trace",
+                "--depth=1",
+                "c",
+                "--bound=10000000",
+                "--pages=1024",
+            ],
+            0,
+        ),
+        // No command, an unknown one, and words after one.
+        (&[], 2),
+        (&["C"], 2),
+        (&["--"], 2),
+        (&["c", "f"], 2),
+        (&["check", "c"], 2),
+        (&["c", "--", "c"], 2),
+        (&["--help"], 2),
+        (&["c", "--help"], 2),
+        (&["--version"], 2),
+        // Options that are none, stand twice, or behind the options' end.
+        (&["--fast", "c"], 2),
+        (&["--trace", "c", "--trace"], 2),
+        (&["--pages=4", "c", "--pages=4"], 2),
+        (&["c", "--", "--pages=4"], 2),
+        // Values that are none, or out of their form or range.
+        (&["c", "--pages"], 2),
+        (&["c", "--pages="], 2),
+        (&["--pages", "", "check"], 2),
+        (&["c", "--pages=0"], 2),
+        (&["check", "--pages=1025"], 2),
+        (&["check", "--bound=10000001"], 2),
+        (&["c", "--bound=+1"], 2),
+        (&["c", "--depth=0"], 2),
+        (&["check", "--depth=101"], 2),
+        (&["check", "--opt=fold"], 2),
+        (&["c", "--opt="], 2),
+    ];
+    for (words, status) in cases {
         let a = run(rt.alloc(), words, FIRST, 4096, [&[], &[], &[]])?;
-        assert_eq!(rt; a.status, 2);
-        assert_eq!(rt; a.out.bytes(), b"".as_slice());
-        assert_eq!(rt; a.notes.bytes(), b"krml: usage\n".as_slice());
+        assert_eq!(rt; a.status, status);
+        if status == 2 {
+            assert_eq!(rt; a.out.bytes(), b"".as_slice());
+            assert_eq!(rt; a.notes.bytes(), b"krml: usage\n".as_slice());
+        }
+    }
+    Ok(())
+}
+
+#[test]
+fn accepted_texts(rt: HostRuntime) -> Result<(), Fail> {
+    let cases: [&[u8]; 6] = [
+        b"",
+        b"; a comment",
+        FIRST,
+        b"(table t u32 5 6) (fun f () ((i u32)) u32 (tab t i)) (entry f)",
+        b"(struct p () (x u8) (y bool)) (fun f () ((a p)) p (make p () (get x a) (not (get y a))))",
+        b"(fun f () ((a u32)) bool (do (let b u64 (cast u32 u64 (shl u32 a (u32 3)))) (le u64 b (u64 9))))",
+    ];
+    for input in cases {
+        let a = run(rt.alloc(), &["check"], input, 4096, [&[], &[], &[]])?;
+        assert_eq!(rt; a.status, 0);
+        assert_eq!(rt; a.out.bytes(), b"accepted\n".as_slice());
+        assert_eq!(rt; a.notes.bytes(), b"".as_slice());
+    }
+    Ok(())
+}
+
+/// Whether a command refuses an input for this, and writes nothing else.
+fn is_refused(
+    alloc: Global,
+    command: &str,
+    input: &[u8],
+    words: &[u8],
+) -> Result<bool, AllocError> {
+    let pieces: [(&[u8], usize); 3] = [(b"krml: refused: ", 1), (words, 1), (b"\n", 1)];
+    let line = text_of(alloc, &pieces)?;
+    let a = run(alloc, &[command], input, 4096, [&[], &[], &[]])?;
+    Ok(a.status == 1 && a.out.bytes().is_empty() && a.notes.bytes() == line.as_slice())
+}
+
+#[test]
+fn refused_definitions(rt: HostRuntime) -> Result<(), Fail> {
+    let cases: [(&[u8], &[u8]); 16] = [
+        (b"(sum s () (A))", b"not built 0"),
+        (
+            b"(fun f () () unit (frame (while true (do (let b (buf u8) (alloc u8 1 (u8 0))) unit)))) (entry f)",
+            b"type fault in definition 0",
+        ),
+        (
+            b"(fun f () () unit (while true unit)) (entry f)",
+            b"not built 0",
+        ),
+        (
+            b"(fun f () () u32 (u8 1)) (sum s () (A))",
+            b"type fault in definition 0",
+        ),
+        (b"(sum s () (A)) (entry g)", b"type fault in definition 1"),
+        (b"(entry f)", b"type fault in definition 0"),
+        (
+            b"(fun f () ((a u32) (a u32)) u32 a) (entry f)",
+            b"type fault in definition 0",
+        ),
+        // The first of several, by place.
+        (
+            b"(table t u8 1) (sum s () (A)) (sum r () (B))",
+            b"not built 1",
+        ),
+        // Buffers, type variables, secret types, loops and calls.
+        (b"(fun f () ((b (buf u8))) unit unit)", b"not built 0"),
+        (b"(fun f () () u8 (frame (u8 1)))", b"not built 0"),
+        (b"(struct p ('a) (x 'a))", b"not built 0"),
+        (b"(table t su8 1)", b"not built 0"),
+        (b"(fun f () ((a u8)) su8 (hide u8 a))", b"not built 0"),
+        (b"(fun f () () su8 (su8 1))", b"not built 0"),
+        (
+            b"(fun f () () unit (for i (u32 0) (u32 9) unit))",
+            b"not built 0",
+        ),
+        (
+            b"(fun f () () unit unit) (fun g () () unit (call f ()))",
+            b"not built 1",
+        ),
+    ];
+    for (input, words) in cases {
+        for command in ["c", "check"] {
+            assert!(rt; is_refused(rt.alloc(), command, input, words)?);
+        }
+    }
+    Ok(())
+}
+
+#[test]
+fn accepted_files_that_are_no_first_ones(rt: HostRuntime) -> Result<(), Fail> {
+    let cases: [&[u8]; 3] = [
+        b"",
+        b"(table t u32 5 6) (fun f () ((i u32)) u32 (tab t i)) (entry f)",
+        b"(fun f () () u8 (u8 1)) (entry f)",
+    ];
+    for input in cases {
+        assert!(rt; is_refused(rt.alloc(), "c", input, b"not built")?);
     }
     Ok(())
 }
@@ -118,7 +270,7 @@ fn text_of(alloc: Global, pieces: &[(&[u8], usize)]) -> Result<Vec<u8>, AllocErr
 
 #[test]
 fn refusals(rt: HostRuntime) -> Result<(), Fail> {
-    let cases: [(&[(&[u8], usize)], &[u8]); 12] = [
+    let cases: [(&[(&[u8], usize)], &[u8]); 9] = [
         (&[(b";", 1), (b"x", 1_048_576)], b"too large"),
         (&[(b"(fun f", 1)], b"syntax at 6"),
         (&[(b"(", 524_288)], b"syntax at 524288"),
@@ -141,23 +293,12 @@ fn refusals(rt: HostRuntime) -> Result<(), Fail> {
             ],
             b"limit parameters 33",
         ),
-        (&[], b"not built"),
-        (&[(b"(entry f)", 1)], b"not built"),
-        (
-            &[(b"(fun f () ((a u32) (a u32)) u32 a) (entry f)", 1)],
-            b"not built",
-        ),
     ];
     for (pieces, words) in cases {
         let input = text_of(rt.alloc(), pieces)?;
-        let line = text_of(
-            rt.alloc(),
-            &[(b"krml: refused: ", 1), (words, 1), (b"\n", 1)],
-        )?;
-        let a = run(rt.alloc(), &["c"], input.as_slice(), 4096, [&[], &[], &[]])?;
-        assert_eq!(rt; a.status, 1);
-        assert_eq!(rt; a.out.bytes(), b"".as_slice());
-        assert_eq!(rt; a.notes.bytes(), line.as_slice());
+        for command in ["c", "check"] {
+            assert!(rt; is_refused(rt.alloc(), command, input.as_slice(), words)?);
+        }
     }
     Ok(())
 }

@@ -697,25 +697,25 @@ The function is one of the file.
 
 /// Whether the file that a text spells is typed, and else which definition is at fault.
 #[derive(Debug, PartialEq, Eq, Clone, Copy)]
-enum Typed {
+enum Checked {
     Well,
     Fault(u32),
     Unread,
 }
 
-fn typed(alloc: Global, text: &str) -> Result<Typed, AllocError> {
+fn typed(alloc: Global, text: &str) -> Result<Checked, AllocError> {
     let Ok(file) = read_file(alloc, text.as_bytes()) else {
-        return Ok(Typed::Unread);
+        return Ok(Checked::Unread);
     };
     match check_types(alloc, file) {
-        Ok(_) => Ok(Typed::Well),
-        Err(TypeRefusal::Fault { def }) => Ok(Typed::Fault(def)),
+        Ok(_) => Ok(Checked::Well),
+        Err(TypeRefusal::Fault { def }) => Ok(Checked::Fault(def)),
         Err(TypeRefusal::NoMemory) => Err(AllocError),
     }
 }
 
 /// The same of a function behind the known definitions.
-fn typed_body(alloc: Global, head: &str, body: &str) -> Result<Typed, AllocError> {
+fn typed_body(alloc: Global, head: &str, body: &str) -> Result<Checked, AllocError> {
     let text = format!(in alloc; "{KNOWN}(fun f () {head} {body})")?;
     typed(alloc, text.as_str())
 }
@@ -728,8 +728,12 @@ fn rules_of_definitions(rt: HostRuntime) -> Result<(), Fail> {
         let good = lines.next().expect(&rt, name);
         let bad = lines.next().expect(&rt, name);
         let fault = lines.next().expect(&rt, name).parse().expect(&rt, name);
-        assert_eq!(rt; typed(rt.alloc(), good)?, Typed::Well, "{name} {good}");
-        assert_eq!(rt; typed(rt.alloc(), bad)?, Typed::Fault(fault), "{name} {bad}");
+        assert_eq!(rt; typed(rt.alloc(), good)?, Checked::Well, "{name} {good}");
+        assert_eq!(rt;
+            typed(rt.alloc(), bad)?,
+            Checked::Fault(fault),
+            "{name} {bad}"
+        );
     }
     Ok(())
 }
@@ -742,8 +746,16 @@ fn rules_of_expressions(rt: HostRuntime) -> Result<(), Fail> {
         let head = lines.next().expect(&rt, name);
         let good = lines.next().expect(&rt, name);
         let bad = lines.next().expect(&rt, name);
-        assert_eq!(rt; typed_body(rt.alloc(), head, good)?, Typed::Well, "{name} {good}");
-        assert_eq!(rt; typed_body(rt.alloc(), head, bad)?, Typed::Fault(5), "{name} {bad}");
+        assert_eq!(rt;
+            typed_body(rt.alloc(), head, good)?,
+            Checked::Well,
+            "{name} {good}"
+        );
+        assert_eq!(rt;
+            typed_body(rt.alloc(), head, bad)?,
+            Checked::Fault(5),
+            "{name} {bad}"
+        );
     }
     Ok(())
 }

@@ -4,6 +4,7 @@ use Rattle.std.specs.Bool.{Decides}
 use Rattle.std.specs.List.{Contains}
 use Rattle.std.specs.Str.{bytes_eq}
 use Rattle.std.proofs.lemmas.Bool.{and_parts}
+use Rattle.std.proofs.lemmas.List.{length-map, length_push}
 use Rattle.krml_syntax.specs.declared.tree.Ty.{Ty, out-Ty, roll-Ty, roll-out-Ty}
 use Rattle.krml_syntax.specs.declared.tree.Ty.TheOpen.{Ty-F}
 use Rattle.krml_syntax.specs.declared.tree.Ty.TheVariants as t
@@ -290,13 +291,9 @@ more_within f g (parts ∷ all) (b ∷ table) (c ∷ other) q fg w zero h = go (
     go (inr k) = or_second c (g parts) (fg parts k)
 more_within f g (parts ∷ all) (b ∷ table) (c ∷ other) q fg w (suc k) h = more_within f g all table other (omega (arith, q)) fg (λ j. w (suc j)) k h
 
-length_map : {A B : Type 0} (f : A → B) (xs : List A) → length (map f xs) ≡ length xs
-length_map f [] = refl
-length_map f (x ∷ xs) = ap suc (length_map f xs)
-
 round_within : (defs : List Def) (table other : List Bool) → length other ≡ length defs → Within table other → Within (round defs table) (round defs other)
 round_within defs table other q w =
-    let m = more_within (any_part table) (any_part other) (map (parts_in defs) defs) table other (length_map (parts_in defs) defs ∙ sym q) (any_within table other w) w in
+    let m = more_within (any_part table) (any_part other) (map (parts_in defs) defs) table other (length-map defs (parts_in defs) ∙ sym q) (any_within table other w) w in
     subst (λ z. Within z (round defs other)) (round_is defs table) (subst (λ z. Within (set_more (any_part table) (map (parts_in defs) defs) table) z) (round_is defs other) m)
 
 rounds_within : (n : ℕ) (defs : List Def) (table other : List Bool) → length other ≡ length defs → Within table other → Within (rounds n defs table) (rounds n defs other)
@@ -321,15 +318,11 @@ none_within (def ∷ defs) table zero h = absurd (cc)
 none_within (def ∷ defs) [] (suc k) h = none_within defs [] k h
 none_within (def ∷ defs) (b ∷ table) (suc k) h = none_within defs table k h
 
-longer_by : (front : List Bool) (b : Bool) → length (front ++ b ∷ []) ≡ length front + 1
-longer_by [] b = refl
-longer_by (c ∷ front) b = let h = longer_by front b in omega (arith, h)
-
 length_swept : (all : List (List Part)) (table : List Bool) → length (swept all table) ≡ length table + length all
 length_swept [] table = omega arith
 length_swept (parts ∷ all) table =
     let h = length_swept all (table ++ any_part table parts ∷ []) in
-    let m = longer_by table (any_part table parts) in
+    let m = length_push table (any_part table parts) in
     omega (arith, h, m)
 
 set_front : (done rest : List Bool) (k : ℕ) → set_at done k ≡ true → set_at (done ++ rest) k ≡ true
@@ -345,12 +338,12 @@ push_within (x ∷ table) (y ∷ done) b c h q w (suc j) k = push_within table d
 push_within [] (y ∷ done) b c h q w j k = absurd (omega (arith, q))
 push_within (x ∷ table) [] b c h q w j k = absurd (omega (arith, q))
 
-list_head : (b c : Bool) (bs cs : List Bool) → b ∷ bs ≡ c ∷ cs → (b ≡ c) × (bs ≡ cs)
-list_head b c bs cs e = (cc, cc)
+set_head : (b c : Bool) (bs cs : List Bool) → b ∷ bs ≡ c ∷ cs → (b ≡ c) × (bs ≡ cs)
+set_head b c bs cs e = (cc, cc)
 
-was_set : (b c : Bool) → (b || c) ≡ b → c ≡ true → b ≡ true
-was_set true c e h = refl
-was_set false c e h = sym e ∙ h
+has_to_be : (b c : Bool) → (b || c) ≡ b → c ≡ true → b ≡ true
+has_to_be true c e h = refl
+has_to_be false c e h = sym e ∙ h
 
 -- in a table of which a round sets no more
 module _ (end : List Bool) where
@@ -359,12 +352,12 @@ module _ (end : List Bool) where
   swept_within [] table done rest e stay l q w = subst (Within table) e (λ k h. set_front done rest k (w k h))
   swept_within (parts ∷ all) table done [] e stay l q w = absurd (omega (arith, l))
   swept_within (parts ∷ all) table done (c ∷ rest) e stay l q w =
-      let both = list_head (c || any_part end parts) c (set_more (any_part end) all rest) rest stay in
+      let both = set_head (c || any_part end parts) c (set_more (any_part end) all rest) rest stay in
       let whole : Within table end = subst (Within table) e (λ k h. set_front done (c ∷ rest) k (w k h)) in
       let more : Within (table ++ any_part table parts ∷ []) (done ++ c ∷ []) =
-      push_within table done (any_part table parts) c (λ h. was_set c (any_part end parts) both.0 (any_within table end whole parts h)) q w in
+      push_within table done (any_part table parts) c (λ h. has_to_be c (any_part end parts) both.0 (any_within table end whole parts h)) q w in
       swept_within all (table ++ any_part table parts ∷ []) (done ++ c ∷ []) rest (append_assoc done (c ∷ []) rest ∙ e) both.1 (omega (arith, l))
-      (let m = longer_by table (any_part table parts) in let n = longer_by done c in omega (arith, m, n, q)) more
+      (let m = length_push table (any_part table parts) in let n = length_push done c in omega (arith, m, n, q)) more
 
 holders_within : (defs : List Def) (table : List Bool) → length table ≡ length defs → Within (holders defs) (rounds (length defs) defs table)
 unfolding holders
@@ -375,10 +368,10 @@ pub rounds_swept : (defs : List Def) → rounds (length defs) defs (swept (map (
 rounds_swept defs =
     let all : List (List Part) = map (parts_in defs) defs in
     let n : ℕ = length defs in
-    let long : length (swept all []) ≡ length defs = let a = length_swept all [] in let b = length_map (parts_in defs) defs in omega (arith, a, b) in
+    let long : length (swept all []) ≡ length defs = let a = length_swept all [] in let b = length-map defs (parts_in defs) in omega (arith, a, b) in
     let stay : set_more (any_part (holders defs)) all (holders defs) ≡ holders defs = round_is defs (holders defs) ∙ closed defs in
     let begun : Within (swept all []) (holders defs) =
-    swept_within (holders defs) all [] [] (holders defs) refl stay (length_map (parts_in defs) defs ∙ sym (length_holders defs)) refl (λ k h. h) in
+    swept_within (holders defs) all [] [] (holders defs) refl stay (length-map defs (parts_in defs) ∙ sym (length_holders defs)) refl (λ k h. h) in
     let less : Within (rounds n defs (swept all [])) (holders defs) =
     subst (Within (rounds n defs (swept all []))) (stays n defs (holders defs) (closed defs)) (rounds_within n defs (swept all []) (holders defs) (length_holders defs) begun) in
     let more : Within (holders defs) (rounds n defs (swept all [])) = holders_within defs (swept all []) long in
@@ -470,13 +463,6 @@ module _ (defs : List Def) where
   holders_sound = rounds_sound (length defs) (none_set defs) (λ x h args. let u = unset defs x in absurd (cc))
 
   -- ---- each that holds a buffer is set
-
-  set_head : (b c : Bool) (bs cs : List Bool) → b ∷ bs ≡ c ∷ cs → (b ≡ c) × (bs ≡ cs)
-  set_head b c bs cs e = (cc, cc)
-
-  has_to_be : (b c : Bool) → (b || c) ≡ b → c ≡ true → b ≡ true
-  has_to_be true c e h = refl
-  has_to_be false c e h = sym e ∙ h
 
   stays_set : (test : Def → Bool) (ds : List Def) (ts : List Bool) (x : List ℕ) (vars : List (List ℕ)) (fields : List Field) → length ts ≡ length ds
       → set_more test ds ts ≡ ts → type_named ds x ≡ Some (Struct vars fields) → ((name : List ℕ) → test (d.Struct name vars fields) ≡ true) → is_set ds ts x ≡ true

@@ -1,8 +1,11 @@
-use Rattle.krml_cli.proofs.Clauses.{compiled, refused, prefix, silent, noted, note_prefix, write_noted, completes, refuses, refuses_for}
+use Rattle.krml_cli.proofs.Clauses.{compiled, accepted, refused, prefix, silent, noted, note_prefix, write_noted, usage, usage_always, unread, completes, refuses, refuses_for}
 use Rattle.krml_cli.proofs.krml.krml.Goals as goal
 
 pub returns-clause-compiled : goal.returns-clause-compiled
 returns-clause-compiled g c = compiled _ c.command.result c.command.ensures
+
+pub returns-clause-accepted : goal.returns-clause-accepted
+returns-clause-accepted g c = accepted _ c.command.result c.command.ensures
 
 pub returns-clause-refused : goal.returns-clause-refused
 returns-clause-refused g c = refused c.one_answer.ensures _ c.command.result c.command.ensures
@@ -15,6 +18,15 @@ returns-clause-prefix g c = prefix _ c.command.result c.command.ensures
 
 pub returns-clause-note_prefix : goal.returns-clause-note_prefix
 returns-clause-note_prefix g c = note_prefix _ c.command.result c.command.ensures
+
+pub returns-clause-usage : goal.returns-clause-usage
+returns-clause-usage g c = usage _ c.command.result c.command.ensures
+
+pub returns-clause-usage_always : goal.returns-clause-usage_always
+returns-clause-usage_always g c = usage_always _ c.command.result c.command.ensures
+
+pub returns-clause-unread : goal.returns-clause-unread
+returns-clause-unread g c = unread _ c.command.result c.command.ensures
 
 pub returns-clause-completes : goal.returns-clause-completes
 returns-clause-completes g c = completes c.one_answer.ensures _ c.command.result c.command.ensures
