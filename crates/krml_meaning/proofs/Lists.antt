@@ -1,0 +1,123 @@
+-- Lists: look-ups, updates, and what holds of each element.
+use Rattle.std.proofs.Common.{◌≡◌, ℕ, zero, suc, ◌+◌, ◌<◌, ◌≤◌, List, [], ◌∷◌, ◌++◌, map, length, Option, Some, None, slice_get, Contains, refl, sym, ap, ◌∙◌, subst, arith}
+use Rattle.std.specs.List.{AllByRecursion}
+use Rattle.krml_meaning.specs.State.{update, set_or_add}
+
+abbrev or_else : {A : Type 0} → A → Option A → A
+or_else d None = d
+or_else d (Some a) = a
+
+pub same_some : {A : Type 0} (a b : A) → Some a ≡ Some b → a ≡ b
+same_some a b e = ap (or_else a) e
+
+pub no_some : {A : Type 0} (a : A) → None ≡ Some a → ⊥
+no_some a e = cc
+
+-- the same look-up has one answer
+pub same_answer : {A : Type 0} (o : Option A) (a b : A) → o ≡ Some a → o ≡ Some b → a ≡ b
+same_answer o a b p q = same_some a b (sym p ∙ q)
+
+-- ---- look-ups
+
+pub get_update_same : {A : Type 0} (m : List A) (n : ℕ) (a b : A) → slice_get m n ≡ Some b → slice_get (update n a m) n ≡ Some a
+get_update_same [] n a b h = absurd (no_some b h)
+get_update_same (x ∷ m) zero a b h = refl
+get_update_same (x ∷ m) (suc n) a b h = get_update_same m n a b h
+
+pub get_update_other : {A : Type 0} (m : List A) (n k : ℕ) (a : A) → (n ≡ k → ⊥) → slice_get (update n a m) k ≡ slice_get m k
+get_update_other [] n k a h = refl
+get_update_other (x ∷ m) zero zero a h = absurd (h refl)
+get_update_other (x ∷ m) zero (suc k) a h = refl
+get_update_other (x ∷ m) (suc n) zero a h = refl
+get_update_other (x ∷ m) (suc n) (suc k) a h = get_update_other m n k a (λ e. h (ap suc e))
+
+pub get_left : {A : Type 0} (m l : List A) (n : ℕ) (a : A) → slice_get m n ≡ Some a → slice_get (m ++ l) n ≡ Some a
+get_left [] l n a h = absurd (no_some a h)
+get_left (x ∷ m) l zero a h = h
+get_left (x ∷ m) l (suc n) a h = get_left m l n a h
+
+pub get_right : {A : Type 0} (m l : List A) (k : ℕ) → slice_get (m ++ l) (length m + k) ≡ slice_get l k
+get_right [] l k = let e : 0 + k ≡ k = omega arith in ap (slice_get l) e
+get_right (x ∷ m) l k = let e : suc (length m) + k ≡ suc (length m + k) = omega arith in ap (slice_get (x ∷ m ++ l)) e ∙ get_right m l k
+
+pub get_below : {A : Type 0} (m : List A) (n : ℕ) (a : A) → slice_get m n ≡ Some a → n < length m
+get_below [] n a h = absurd (no_some a h)
+get_below (x ∷ m) zero a h = omega arith
+get_below (x ∷ m) (suc n) a h = let ih = get_below m n a h in omega (arith, ih)
+
+pub get_in : {A : Type 0} (m : List A) (n : ℕ) → n < length m → (a : A) × (slice_get m n ≡ Some a)
+get_in [] n h = absurd (omega (arith, h))
+get_in (x ∷ m) zero h = (x, refl)
+get_in (x ∷ m) (suc n) h = get_in m n (omega (arith, h))
+
+-- ---- lengths
+
+pub length_set : {A : Type 0} (m : List A) (n : ℕ) (a : A) → n < length m → length (set_or_add n a m) ≡ length m
+length_set [] n a h = absurd (omega (arith, h))
+length_set (x ∷ m) zero a h = refl
+length_set (x ∷ m) (suc n) a h = ap suc (length_set m n a (omega (arith, h)))
+
+pub length_add : {A : Type 0} (m : List A) (n : ℕ) (a : A) → n ≡ length m → length (set_or_add n a m) ≡ suc n
+length_add [] n a h = let e : n ≡ 0 = h in rw e
+length_add (x ∷ m) zero a h = absurd (omega (arith, h))
+length_add (x ∷ m) (suc n) a h = ap suc (length_add m n a (omega (arith, h)))
+
+pub set_more : {A : Type 0} (m : List A) (n : ℕ) (a : A) → n ≤ length m → suc n ≤ length (set_or_add n a m)
+set_more [] n a h = omega (arith, h)
+set_more (x ∷ m) zero a h = omega arith
+set_more (x ∷ m) (suc n) a h = let ih = set_more m n a (omega (arith, h)) in omega (arith, ih)
+
+pub map_length : {A B : Type 0} (f : A → B) (xs : List A) → length (map f xs) ≡ length xs
+map_length f [] = refl
+map_length f (x ∷ xs) = ap suc (map_length f xs)
+
+pub map_twice : {A B C : Type 0} (f : A → B) (g : B → C) (xs : List A) → map g (map f xs) ≡ map (λ x. g (f x)) xs
+map_twice f g [] = refl
+map_twice f g (x ∷ xs) = ap (λ z. g (f x) ∷ z) (map_twice f g xs)
+
+pub map_same : {A B : Type 0} (f g : A → B) (xs : List A) → ((x : A) → f x ≡ g x) → map f xs ≡ map g xs
+map_same f g [] h = refl
+map_same f g (x ∷ xs) h = ap (λ z. z ∷ map f xs) (h x) ∙ ap (λ z. g x ∷ z) (map_same f g xs h)
+
+-- ---- each element
+
+module _ {A : Type 0} (P : A → Type 0) where
+  pub each_get : (m : List A) (n : ℕ) (a : A) → AllByRecursion P m → slice_get m n ≡ Some a → P a
+  each_get [] n a h e = absurd (no_some a e)
+  each_get (x ∷ m) zero a h e = subst P (same_some x a e) h.0
+  each_get (x ∷ m) (suc n) a h e = each_get m n a h.1 e
+
+  pub each_update : (m : List A) (n : ℕ) (a : A) → AllByRecursion P m → P a → AllByRecursion P (update n a m)
+  each_update [] n a h p = tt
+  each_update (x ∷ m) zero a h p = (p, h.1)
+  each_update (x ∷ m) (suc n) a h p = (h.0, each_update m n a h.1 p)
+
+  pub each_set : (m : List A) (n : ℕ) (a : A) → AllByRecursion P m → P a → AllByRecursion P (set_or_add n a m)
+  each_set [] n a h p = (p, tt)
+  each_set (x ∷ m) zero a h p = (p, h.1)
+  each_set (x ∷ m) (suc n) a h p = (h.0, each_set m n a h.1 p)
+
+  pub each_append : (m l : List A) → AllByRecursion P m → AllByRecursion P l → AllByRecursion P (m ++ l)
+  each_append [] l h k = k
+  each_append (x ∷ m) l h k = (h.0, each_append m l h.1 k)
+
+  pub each_left : (m l : List A) → AllByRecursion P (m ++ l) → AllByRecursion P m
+  each_left [] l h = tt
+  each_left (x ∷ m) l h = (h.0, each_left m l h.1)
+
+  pub each_right : (m l : List A) → AllByRecursion P (m ++ l) → AllByRecursion P l
+  each_right [] l h = h
+  each_right (x ∷ m) l h = each_right m l h.1
+
+  pub each_contains : (xs : List A) (x : A) → AllByRecursion P xs → Contains xs x → P x
+  each_contains [] x h k = absurd (omega (arith, k.1))
+  each_contains (y ∷ ys) x h (zero, k, e) = subst P e h.0
+  each_contains (y ∷ ys) x h (suc i, k, e) = each_contains ys x h.1 (i, omega (arith, k), e)
+
+  pub each_among : (xs : List A) → ((x : A) → Contains xs x → P x) → AllByRecursion P xs
+  each_among [] h = tt
+  each_among (x ∷ xs) h = (h x (0, omega arith, refl), each_among xs (λ y k. h y (suc k.0, omega (arith, k.1), k.2)))
+
+pub each_so : {A : Type 0} (P Q : A → Type 0) (xs : List A) → ((x : A) → P x → Q x) → AllByRecursion P xs → AllByRecursion Q xs
+each_so P Q [] f h = tt
+each_so P Q (x ∷ xs) f h = (f x h.0, each_so P Q xs f h.1)

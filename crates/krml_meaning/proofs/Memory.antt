@@ -1,0 +1,118 @@
+-- What stores, pushes and pops keep of a memory.
+use Rattle.std.proofs.Common.{◌≡◌, ℕ, zero, suc, ◌<◌, ◌≤◌, List, [], ◌∷◌, ◌++◌, Some, slice_get, map, length, refl, sym, ap, ◌∙◌, arith, ⊎_elim}
+use Rattle.std.specs.List.{AllByRecursion}
+use Rattle.std.proofs.lemmas.Bool.Decides.{eqb_tells}
+use Rattle.krml_syntax.specs.declared.tree.Ty.{Ty}
+use Rattle.krml_syntax.specs.declared.tree.Slot.{Slot}
+use Rattle.krml_syntax.specs.declared.tree.Def.{Def}
+use Rattle.krml_ast.specs.IsType.{erased, IsFlat}
+use Rattle.krml_meaning.specs.declared.value.Value.{Value}
+use Rattle.krml_meaning.specs.State.{Block, update, with_item, fresh, close_from}
+use Rattle.krml_meaning.specs.Shape.{Open, Usable, HasShape, BlockTyped, MemoryTyped, Extends}
+use Rattle.krml_meaning.proofs.Lists.{same_some, get_update_same, get_update_other, get_left, get_below, length_set, length_add, each_get, each_update, each_set, each_append}
+
+-- ---- a store
+
+module _ (m : List Block) (n : ℕ) (b : Block) (i : ℕ) (x : Value) (h : slice_get m n ≡ Some b) (lt : i < b.len) where
+  open_put : (k : ℕ) (a : Ty) (len : ℕ) → Open m k a len → Open (update n (with_item i x b) m) k a len
+  open_put k a len o = ⊎_elim
+      (λ p.
+      let same : b ≡ o.block = same_some b o.block (sym h ∙ ap (slice_get m) p.1 ∙ o.there) in
+      record {
+        block = with_item i x b;
+        there = ap (slice_get (update n (with_item i x b) m)) (sym p.1) ∙ get_update_same m n (with_item i x b) b h;
+        elem = ap (λ (z : Block). erased z.elem) same ∙ o.elem;
+        size = ap (λ (z : Block). z.len) same ∙ o.size;
+        live = ap (λ (z : Block). z.live) same ∙ o.live;
+      })
+      (λ p. record { block = o.block; there = get_update_other m n k (with_item i x b) p.1 ∙ o.there; elem = o.elem; size = o.size; live = o.live })
+      (eqb_tells n k)
+
+  usable_put : (k : ℕ) (a : Ty) (len : ℕ) → Usable m k a len → Usable (update n (with_item i x b) m) k a len
+  usable_put k a len u =
+      let o = u.is_open in
+      ⊎_elim
+      (λ p.
+      let same : b ≡ o.block = same_some b o.block (sym h ∙ ap (slice_get m) p.1 ∙ o.there) in
+      let size : b.len ≡ len = ap (λ (z : Block). z.len) same ∙ o.size in
+      let full : length b.items ≡ len = ap (λ (z : Block). length z.items) same ∙ u.full in
+      let in_it : i < length b.items = omega (arith, lt, size, full) in
+      record {
+        is_open = record {
+          block = with_item i x b;
+          there = ap (slice_get (update n (with_item i x b) m)) (sym p.1) ∙ get_update_same m n (with_item i x b) b h;
+          elem = ap (λ (z : Block). erased z.elem) same ∙ o.elem;
+          size = size;
+          live = ap (λ (z : Block). z.live) same ∙ o.live;
+        };
+        full = length_set b.items i x in_it ∙ full;
+      })
+      (λ p. record {
+        is_open = record { block = o.block; there = get_update_other m n k (with_item i x b) p.1 ∙ o.there; elem = o.elem; size = o.size; live = o.live };
+        full = u.full;
+      })
+      (eqb_tells n k)
+
+  pub put_extends : Extends m (update n (with_item i x b) m)
+  put_extends = record { opened = open_put; usable = usable_put }
+
+-- ---- a frame's begin
+
+pub push_extends : (m l : List Block) → Extends m (m ++ l)
+push_extends m l = record {
+  opened = λ n a len o. on n a len o;
+  usable = λ n a len u. record { is_open = on n a len u.is_open; full = u.full };
+}
+  where
+    on : (n : ℕ) (a : Ty) (len : ℕ) → Open m n a len → Open (m ++ l) n a len
+    on n a len o = record { block = o.block; there = get_left m l n o.block o.there; elem = o.elem; size = o.size; live = o.live }
+
+-- ---- and its end
+
+close_below : (m : List Block) (n k : ℕ) → k < n → slice_get (close_from n m) k ≡ slice_get m k
+close_below [] n k h = refl
+close_below (b ∷ m) zero k h = absurd (omega (arith, h))
+close_below (b ∷ m) (suc n) zero h = refl
+close_below (b ∷ m) (suc n) (suc k) h = close_below m n k (omega (arith, h))
+
+pub close_extends : (m now : List Block) → Extends m now → Extends m (close_from (length m) now)
+close_extends m now p = record {
+  opened = λ n a len o. on n a len (get_below m n o.block o.there) (p.opened n a len o);
+  usable = λ n a len u.
+      let w = p.usable n a len u in
+      record { is_open = on n a len (get_below m n u.is_open.block u.is_open.there) w.is_open; full = w.full };
+}
+  where
+    on : (n : ℕ) (a : Ty) (len : ℕ) → n < length m → Open now n a len → Open (close_from (length m) now) n a len
+    on n a len lt o = record { block = o.block; there = close_below now (length m) n lt ∙ o.there; elem = o.elem; size = o.size; live = o.live }
+
+-- ---- typed memories
+
+module _ (defs : List Def) where
+  pub put_typed : (m : List Block) (n : ℕ) (b : Block) (i : ℕ) (x : Value) → MemoryTyped defs m → slice_get m n ≡ Some b → HasShape defs [] x (erased b.elem) → i < b.len
+      → i ≤ length b.items → MemoryTyped defs (update n (with_item i x b) m)
+  put_typed m n b i x h e s lt le =
+      let typed = each_get (BlockTyped defs) m n b h e in
+      each_update (BlockTyped defs) m n (with_item i x b) h (record {
+        flat = typed.flat;
+        few = ⊎_elim
+            (λ p. let q = length_add b.items i x p.1 in omega (arith, q, lt))
+            (λ p. let q = length_set b.items i x (below i (length b.items) le p.1) in let f = typed.few in omega (arith, q, f))
+            (eqb_tells i (length b.items));
+        items = each_set (λ y. HasShape defs [] y (erased b.elem)) b.items i x typed.items s;
+      })
+    where
+      below : (i n : ℕ) → i ≤ n → (i ≡ n → ⊥) → i < n
+      below i n le ne = omega (arith, le, ne)
+
+  fresh_typed : (slots : List Slot) → AllByRecursion (λ s. IsFlat defs s.ty) slots → MemoryTyped defs (map fresh slots)
+  fresh_typed [] h = tt
+  fresh_typed (s ∷ slots) h = (record { flat = h.0; few = omega arith; items = tt }, fresh_typed slots h.1)
+
+  pub push_typed : (m : List Block) (slots : List Slot) → MemoryTyped defs m → AllByRecursion (λ s. IsFlat defs s.ty) slots → MemoryTyped defs (m ++ map fresh slots)
+  push_typed m slots h f = each_append (BlockTyped defs) m (map fresh slots) h (fresh_typed slots f)
+
+  pub close_typed : (n : ℕ) (m : List Block) → MemoryTyped defs m → MemoryTyped defs (close_from n m)
+  close_typed n [] h = tt
+  close_typed zero (b ∷ m) h = (record { flat = h.0.flat; few = h.0.few; items = h.0.items }, close_typed zero m h.1)
+  close_typed (suc n) (b ∷ m) h = (h.0, close_typed n m h.1)

@@ -1,0 +1,5 @@
+use Rattle.krml_meaning.proofs.Entries.{typed_runs}
+use Rattle.krml_meaning.proofs.laws.typed_files_run.Goals as goal
+
+pub returns : goal.returns
+returns c = typed_runs

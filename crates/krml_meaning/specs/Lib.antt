@@ -1,0 +1,5 @@
+pub mod Loop
+pub mod Meaning
+pub mod Shape
+pub mod Sound
+pub mod State
