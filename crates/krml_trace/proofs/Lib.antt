@@ -1,1 +1,3 @@
+pub mod After
+pub mod Levels
 pub mod Simulates

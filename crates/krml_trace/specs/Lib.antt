@@ -1,5 +1,8 @@
+pub mod After
 pub mod Argument
 pub mod Byte
+pub mod Levels
+pub mod Loop
 pub mod Memory
 pub mod Name
 pub mod Outside

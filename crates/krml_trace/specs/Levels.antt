@@ -1,0 +1,10 @@
+-- Calls under a bound, for any language.
+use Rattle.std.specs.Prelude.{ℕ, zero, suc}
+use Rattle.krml_trace.specs.declared.why.Why.TheVariants.{Deep}
+use Rattle.krml_trace.specs.Run.{State, Ran, ends}
+
+-- What a call means with so many levels left: what its body means, where the calls in that are one level deeper. A call for
+-- which no level is left ends the run.
+abbrev pub within : {E B X A : Type 0} → ((X → State E B → Ran E B A) → X → State E B → Ran E B A) → ℕ → X → State E B → Ran E B A
+within body zero x s = ends Deep s
+within body (suc levels) x s = body (within body levels) x s
