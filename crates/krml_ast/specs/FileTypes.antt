@@ -1,6 +1,6 @@
 -- The forms of files between the passes.
 -- Every file keeps `IsRegular`, and the names that its definitions give are of the shapes that its form allows.
-use Rattle.std.specs.Prelude.{◌≡◌, ℕ, ◌≤◌, List, [], ◌∷◌, ◌++◌, map, length, codes, ◌⊎◌, Option, Some, None, if◌then◌else◌}
+use Rattle.std.specs.Prelude.{◌≡◌, ℕ, ◌<◌, ◌≤◌, ◌^◌, List, [], ◌∷◌, ◌++◌, map, length, codes, ◌⊎◌, Option, Some, None, if◌then◌else◌}
 use Rattle.std.specs.List.{AllByRecursion, IsDistinct, flat_map}
 use Rattle.std.specs.Str.{bytes_eq}
 use Rattle.std.specs.Fmt.{decimal}
@@ -63,10 +63,11 @@ pub record IsRegular (defs : List Def) : Type 0 where
 
 -- ---- names
 
--- the instance of a number of what has a name: NAME'k
+-- the instance of a number of what has a name: NAME'k. The number is one that `decimal` writes whole.
 pub record IsInstanceName (x : List ℕ) : Type 0 where
   pub name : List ℕ
   pub k : ℕ
+  pub small : k < 2 ^ 64
   pub named : IsName name
   pub is : x ≡ name ++ codes "'" ++ decimal k
 
@@ -92,6 +93,7 @@ pub record IsPlainName (prefix x : List ℕ) : Type 0 where
 pub record IsNumberedName (prefix x : List ℕ) : Type 0 where
   pub name : List ℕ
   pub k : ℕ
+  pub small : k < 2 ^ 64
   pub named : IsName name
   pub is : x ≡ prefix ++ decimal k ++ codes "_" ++ name
 

@@ -1,9 +1,7 @@
-pub mod Evaluate
 pub mod FileTypes
 pub mod Found
 pub mod IsType
 pub mod Labelled
-pub mod Meaning
 pub mod Names
 pub mod Pieces
 pub mod Places

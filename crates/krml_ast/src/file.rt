@@ -30,7 +30,7 @@ impl Model for CheckedFile {
 impl CheckedFile {
     /// The file as one of this form.
     pub fn of(file: SourceFile) -> CheckedFile
-        requires { IsChecked file }
+        requires { ∥ IsChecked file ∥₁ }
         ensures { result ≡ file }
     {
         CheckedFile { inner: file }
@@ -68,7 +68,7 @@ impl Model for MonoFile {
 impl MonoFile {
     /// The file as one of this form.
     pub fn of(file: SourceFile) -> MonoFile
-        requires { IsMono file }
+        requires { ∥ IsMono file ∥₁ }
         ensures { result ≡ file }
     {
         MonoFile { inner: file }
@@ -106,7 +106,7 @@ impl Model for PlainFile {
 impl PlainFile {
     /// The file as one of this form.
     pub fn of(file: SourceFile) -> PlainFile
-        requires { IsPlain file }
+        requires { ∥ IsPlain file ∥₁ }
         ensures { result ≡ file }
     {
         PlainFile { inner: file }
@@ -144,7 +144,7 @@ impl Model for HoistedFile {
 impl HoistedFile {
     /// The file as one of this form.
     pub fn of(file: SourceFile) -> HoistedFile
-        requires { IsHoisted file }
+        requires { ∥ IsHoisted file ∥₁ }
         ensures { result ≡ file }
     {
         HoistedFile { inner: file }
@@ -194,7 +194,7 @@ impl Model for BundledFile {
 impl BundledFile {
     /// The file with the emitted name of each entry, in the order of the file, as one of this form.
     pub fn of(file: SourceFile, names: Seq<Emitted>) -> BundledFile
-        requires { IsBundled file names }
+        requires { ∥ IsBundled file names ∥₁ }
         ensures { result ≡ (file, names) }
     {
         BundledFile { inner: file, names }

@@ -1,7 +1,6 @@
-//! The source language: its trees, and what they mean.
+//! The source language: its trees, their types, and the forms of files between the passes.
 #![tactic(auto)]
 
-mod evaluate;
 mod event;
 mod fields;
 mod file;
@@ -13,10 +12,8 @@ mod names;
 mod places;
 mod run;
 mod types;
-mod value;
 mod vars;
 
-pub use evaluate::evaluate_source;
 pub use event::SourceEvent;
 pub use fields::field_named;
 pub use file::{BundledFile, CheckedFile, Emitted, HoistedFile, MonoFile, PlainFile};
@@ -30,7 +27,6 @@ pub use labels::type_of;
 pub use names::Names;
 pub use run::SourceRun;
 pub use types::{clone_ty, name_of, type_at};
-pub use value::{Value, Variable};
 pub use vars::Vars;
 
 #[cfg(test)]

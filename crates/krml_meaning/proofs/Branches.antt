@@ -18,9 +18,10 @@ use Rattle.krml_meaning.specs.declared.value.Value.{Value}
 use Rattle.krml_meaning.specs.State.{Block, Variables, SourceState, SourceRan, Env, Sem, with_vars}
 use Rattle.krml_meaning.specs.Meaning as src
 use Rattle.krml_meaning.specs.Shape.{HasShape, AllHaveShape, MemoryTyped, Extends}
-use Rattle.krml_meaning.specs.Sound.{After, Fine}
+use Rattle.krml_trace.specs.After.{After}
+use Rattle.krml_meaning.specs.Sound.{Fine}
 use Rattle.krml_meaning.proofs.Lists.{same_some, no_some, same_answer}
-use Rattle.krml_meaning.proofs.After.{after_bind, after_so, after_some, after_found, after_if}
+use Rattle.krml_trace.proofs.After.{after_bind, after_so, after_some, after_found, after_if}
 use Rattle.krml_meaning.proofs.Facts.{InSum, same_sum}
 use Rattle.krml_meaning.proofs.Shapes.{extends_same, extends_then, extends_none, ConShape, shape_on, shape_at, after_truth, after_con}
 use Rattle.krml_meaning.proofs.Forms.{Sound, SoundAll, FineAll, FineEnv, fine_then}

@@ -17,12 +17,13 @@ use Rattle.krml_ast.specs.IsType.{erased, u32, HoldsBuffer, IsFlat}
 use Rattle.krml_meaning.specs.declared.value.Value.{Value}
 use Rattle.krml_meaning.specs.declared.value.Value.TheVariants as v
 use Rattle.krml_meaning.specs.State.{Block, SourceState, Env, Sem, with_vars, closed_slot, fresh, put, with_item, close_from}
-use Rattle.krml_meaning.specs.Loop.{loop}
+use Rattle.krml_trace.specs.Loop.{loop}
 use Rattle.krml_meaning.specs.Meaning as src
 use Rattle.krml_meaning.specs.Shape.{Open, Usable, HasShape, BlockTyped, MemoryTyped, Extends}
-use Rattle.krml_meaning.specs.Sound.{After, Fine}
+use Rattle.krml_trace.specs.After.{After}
+use Rattle.krml_meaning.specs.Sound.{Fine}
 use Rattle.krml_meaning.proofs.Lists.{same_some, get_in, get_update_same, set_more, each_get}
-use Rattle.krml_meaning.proofs.After.{after_bind, after_some, after_check, after_if, Turned, loop_after}
+use Rattle.krml_trace.proofs.After.{after_bind, after_some, after_check, after_if, Turned, loop_after}
 use Rattle.krml_meaning.proofs.Facts.{Facts}
 use Rattle.krml_meaning.proofs.Flat.{holds_erased}
 use Rattle.krml_meaning.proofs.Memory.{put_extends, push_extends, close_extends, put_typed, push_typed, close_typed}

@@ -33,7 +33,8 @@ use Rattle.krml_meaning.specs.declared.value.Value.TheVariants as v
 use Rattle.krml_meaning.specs.State.{Block, SourceState, SourceRan}
 use Rattle.krml_meaning.specs.Meaning.{Function, Passed, Start, with_value, with_buffer, pass_buffer, pass, pass_all, params_over, start_of, start, has_entry, function_named, scalar_in, done, enter, eval, env_of, run_from, run_started, ArgumentsFit}
 use Rattle.krml_meaning.specs.Shape.{number_ty, HasShape, AllHaveShape, BlockTyped, MemoryTyped, Extends}
-use Rattle.krml_meaning.specs.Sound.{After, Fine, CanRun, EndsWith, RunsWell, TypedFilesRun}
+use Rattle.krml_trace.specs.After.{After}
+use Rattle.krml_meaning.specs.Sound.{Fine, CanRun, EndsWith, RunsWell, TypedFilesRun}
 use Rattle.krml_meaning.proofs.Lists.{same_some, no_some, same_answer, each_append, get_right, map_length}
 use Rattle.krml_meaning.proofs.Types.{at_bool, at_unit, at_int, at_buf, erased_bool, erased_unit, erased_int, erased_buf}
 use Rattle.krml_meaning.proofs.Flat.{by_form, none_int}
@@ -44,7 +45,7 @@ use Rattle.krml_meaning.proofs.Files.{facts, each_def}
 use Rattle.krml_meaning.proofs.Levels.{entered, body_sound, enter_sound}
 use Rattle.krml_meaning.proofs.Bodies.{bodies_proper}
 
-width_is : (w u : Width) → same_width w u ≡ true → w ≡ u
+pub width_is : (w u : Width) → same_width w u ≡ true → w ≡ u
 width_is W8 W8 e = refl
 width_is W32 W32 e = refl
 width_is W64 W64 e = refl
@@ -171,7 +172,7 @@ module _ (defs : List Def) (vars : List (List ℕ)) where
     pub extends : Extends p.memory q.memory
     pub memory : MemoryTyped defs q.memory
 
-  then_is : (params : List Field) (args : List Arg) (o : Option Passed) (q : Passed) → option_and_then (pass_all params args) o ≡ Some q
+  pub then_is : (params : List Field) (args : List Arg) (o : Option Passed) (q : Passed) → option_and_then (pass_all params args) o ≡ Some q
       → (p : Passed) × (o ≡ Some p) × (pass_all params args p ≡ Some q)
   then_is params args (Some p) q e = (p, refl, e)
   then_is params args None q e = absurd (no_some q e)
@@ -202,18 +203,18 @@ pub record EntryTyped (defs : List Def) (x : List ℕ) : Type 0 where
   pub vars : function.vars ≡ []
   pub answer : IsAnswer function.result
 
-abbrev EntryFits : List Def → Def → Type 0
+abbrev pub EntryFits : List Def → Def → Type 0
 EntryFits defs (d.Entry x) = EntryTyped defs x
 EntryFits defs _ = Unit {0}
 
-entry_fits : (defs before : List Def) (def : Def) → WellTyped defs before def → EntryFits defs def
+pub entry_fits : (defs before : List Def) (def : Def) → WellTyped defs before def → EntryFits defs def
 entry_fits defs before def (WellTyped.entry {f = f} new is none outside answer) = record { function = f; is = is; vars = none; answer = answer }
 entry_fits defs before def (WellTyped.struct new vs fs ok) = tt
 entry_fits defs before def (WellTyped.sum new cs vs ok) = tt
 entry_fits defs before def (WellTyped.table new ok) = tt
 entry_fits defs before def (WellTyped.fun new vs ps ok r res b) = tt
 
-entry_there : (defs ds : List Def) (x : List ℕ) → AllByRecursion (EntryFits defs) ds → has_entry ds x ≡ true → EntryTyped defs x
+pub entry_there : (defs ds : List Def) (x : List ℕ) → AllByRecursion (EntryFits defs) ds → has_entry ds x ≡ true → EntryTyped defs x
 entry_there defs [] x h e = absurd (cc)
 entry_there defs (d.Entry name ∷ ds) x h e = go (bytes_eq name x) refl e (entry_there defs ds x h.1)
   where
@@ -256,7 +257,7 @@ module _ (defs : List Def) (vars : List (List ℕ)) (m : List Block) where
   not_value : IsValue t.Unit → ⊥
   not_value h = let e = sym (ap is_unit_in t.outs-Unit) ∙ h in absurd (cc)
 
-  shape_as : (y : Value) (a b : Ty) (o : Ty-F Ty) → a ≡ b → out-Ty b ≡ o → HasShape defs m y a → ShapeIn defs m (out-Value y) o
+  pub shape_as : (y : Value) (a b : Ty) (o : Ty-F Ty) → a ≡ b → out-Ty b ≡ o → HasShape defs m y a → ShapeIn defs m (out-Value y) o
   shape_as y a b o e q h = subst (ShapeIn defs m (out-Value y)) q (shape_in defs m y b (subst (HasShape defs m y) e h))
 
   result_is : (y : Value) (a : Ty) → IsAnswer a → HasShape defs m y (at vars [] a) → IsSome (scalar_in (out-Value y)) ↔ IsValue a
@@ -299,7 +300,7 @@ of_function items f b e = go (pass_all f.params items (record { vars = []; memor
         let same : record { function = f; passed = p } ≡ b = same_some (record { function = f; passed = p }) b e' in
         (sym (ap (λ (z : Start). z.function) same), q ∙ ap (λ (z : Start). Some z.passed) same)
 
-started : (file : SourceFile) (entry : List ℕ) (items : List Arg) (b : Start) → start file entry items ≡ Some b → Started file.defs entry items b
+pub started : (file : SourceFile) (entry : List ℕ) (items : List Arg) (b : Start) → start file entry items ≡ Some b → Started file.defs entry items b
 started file entry items b e = go (has_entry file.defs entry) refl (function_named file.defs entry) refl e
   where
     go : (h : Bool) → has_entry file.defs entry ≡ h → (o : Option Function) → function_named file.defs entry ≡ o → (if h then option_and_then (start_of items) o else None) ≡ Some b
@@ -314,7 +315,7 @@ started file entry items b e = go (has_entry file.defs entry) refl (function_nam
     go true p None q e' = absurd (no_some b e')
     go false p o q e' = absurd (no_some b e')
 
-some_there : {A : Type 0} (o : Option A) → IsSome o → (a : A) × (o ≡ Some a)
+pub some_there : {A : Type 0} (o : Option A) → IsSome o → (a : A) × (o ≡ Some a)
 some_there (Some a) h = (a, refl)
 some_there None h = absurd (cc)
 

@@ -23,11 +23,11 @@ use Rattle.krml_meaning.proofs.Types.{name_same}
 
 -- ---- places
 
-take_front : {A : Type 0} (before rest : List A) → take (length before) (before ++ rest) ≡ before
+pub take_front : {A : Type 0} (before rest : List A) → take (length before) (before ++ rest) ≡ before
 take_front [] rest = refl
 take_front (x ∷ before) rest = ap (λ z. x ∷ z) (take_front before rest)
 
-at_front : {A : Type 0} (before : List A) (x : A) (rest : List A) → slice_get (before ++ x ∷ rest) (length before) ≡ Some x
+pub at_front : {A : Type 0} (before : List A) (x : A) (rest : List A) → slice_get (before ++ x ∷ rest) (length before) ≡ Some x
 at_front [] x rest = refl
 at_front (y ∷ before) x rest = at_front before x rest
 
@@ -263,10 +263,10 @@ place_last (d.Table name ty nums ∷ before) after x e = place_last before after
 place_last (d.Fun name vars params result body ∷ before) after x e = place_last before after x e
 place_last (d.Entry name ∷ before) after x e = place_last before after x e
 
-contains_first : {A : Type 0} (x : A) (xs : List A) → Contains (x ∷ xs) x
+pub contains_first : {A : Type 0} (x : A) (xs : List A) → Contains (x ∷ xs) x
 contains_first x xs = (0, omega arith, refl)
 
-contains_later : {A : Type 0} (y x : A) (xs : List A) → Contains xs x → Contains (y ∷ xs) x
+pub contains_later : {A : Type 0} (y x : A) (xs : List A) → Contains xs x → Contains (y ∷ xs) x
 contains_later y x xs k = (suc k.0, let l = k.1 in omega (arith, l), k.2)
 
 -- a name that no definition gives means nothing

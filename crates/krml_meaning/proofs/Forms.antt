@@ -23,12 +23,13 @@ use Rattle.krml_ast.specs.WellTyped.{names_of}
 use Rattle.krml_meaning.specs.declared.value.Value.{Value}
 use Rattle.krml_meaning.specs.declared.value.Value.TheVariants as v
 use Rattle.krml_meaning.specs.State.{Block, SourceState, SourceRan, Env, Sem, value_of, closed}
-use Rattle.krml_meaning.specs.Loop.{Turn}
+use Rattle.krml_trace.specs.Loop.{Turn}
 use Rattle.krml_meaning.specs.Meaning as src
 use Rattle.krml_meaning.specs.Shape.{number_ty, HasShape, AllHaveShape, MemoryTyped, Extends}
-use Rattle.krml_meaning.specs.Sound.{After, Fine}
+use Rattle.krml_trace.specs.After.{After}
+use Rattle.krml_meaning.specs.Sound.{Fine}
 use Rattle.krml_meaning.proofs.Lists.{each_get}
-use Rattle.krml_meaning.proofs.After.{after_bind, after_so, after_tick, after_some, after_found, after_check, after_if, Turned, loop_after}
+use Rattle.krml_trace.proofs.After.{after_bind, after_so, after_tick, after_some, after_found, after_check, after_if, Turned, loop_after}
 use Rattle.krml_meaning.proofs.Facts.{Facts}
 use Rattle.krml_meaning.proofs.Numbers.{wrap_fits, result_fits, shifted_fits}
 use Rattle.krml_meaning.proofs.Shapes.{extends_same, extends_then, shape_on, after_number, after_truth, after_struct, field_there, struct_count}
@@ -70,7 +71,7 @@ module _ (defs : List Def) where
   abbrev pub CallsSound : src.Calls → Type 0
   CallsSound calls = (x : List ℕ) (f : Signature) (types : List Ty) (xs : List Value) (s : SourceState) → fun_named defs x ≡ Some f → length types ≡ length f.vars
       → AreArguments defs [] types → AllHaveShape defs s.memory xs (fields_at f.vars types f.params) → MemoryTyped defs s.memory
-      → After (Fine defs s.memory (typing.at f.vars types f.result)) (calls x types xs s)
+      → After (Fine defs s.memory (typing.at f.vars types f.result)) (calls (record { name = x; types = types; values = xs }) s)
 
   -- between the turns of a loop
   pub record Kept (m : List Block) (s : SourceState) : Type 0 where
@@ -233,7 +234,7 @@ module _ (defs : List Def) where
           let Q = Fine defs s.memory (typing.at f.vars types f.result) in
           after_bind (FineAll s.memory (fields_at f.vars types f.params)) Q (src.values evs env s) _ (hs.run env s r hm) (λ xs s1 h1.
           after_tick Q s1 _ (λ left. after_so (Fine defs s1.memory (typing.at f.vars types f.result)) Q _
-          (subst (λ z. After (Fine defs s1.memory (typing.at f.vars types f.result)) (calls x z xs (record s1 { ticks = left }))) (sym (same s.memory env r))
+          (subst (λ z. After (Fine defs s1.memory (typing.at f.vars types f.result)) (calls (record { name = x; types = z; values = xs }) (record s1 { ticks = left }))) (sym (same s.memory env r))
           (hk x f types xs (record s1 { ticks = left }) is n oks h1.shapes h1.memory))
           (λ y s2 h2. fine_then s.memory s1.memory (typing.at f.vars types f.result) y s2 h1.extends h2)));
     }

@@ -16,9 +16,11 @@ use Rattle.krml_meaning.specs.State.{Block, Variables, SourceState, value_of}
 use Rattle.krml_meaning.specs.Meaning as src
 use Rattle.krml_meaning.specs.Meaning.{params_over, enter, env_of}
 use Rattle.krml_meaning.specs.Shape.{HasShape, AllHaveShape, MemoryTyped}
-use Rattle.krml_meaning.specs.Sound.{After, Fine}
+use Rattle.krml_trace.specs.After.{After}
+use Rattle.krml_meaning.specs.Sound.{Fine}
 use Rattle.krml_meaning.proofs.Lists.{same_some, no_some}
-use Rattle.krml_meaning.proofs.After.{after_some}
+use Rattle.krml_trace.proofs.After.{after_some}
+use Rattle.krml_trace.proofs.Levels.{within_holds}
 use Rattle.krml_meaning.proofs.Facts.{Facts}
 use Rattle.krml_meaning.proofs.Types.{erased_at, name_same}
 use Rattle.krml_meaning.proofs.Shapes.{shapes_in}
@@ -32,7 +34,7 @@ abbrev pub param_vars : List Field → Vars
 param_vars params = map (λ p. (p.name, erased p.ty)) params
 
 -- names that differ do so both ways
-other_name : (x y : List ℕ) → bytes_eq x y ≡ false → bytes_eq y x ≡ false
+pub other_name : (x y : List ℕ) → bytes_eq x y ≡ false → bytes_eq y x ≡ false
 other_name x y h = off (bytes_eq y x) (λ e. let back = (bytes_eq-Decides x y).1 (sym ((bytes_eq-Decides y x).0 e)) in absurd (cc))
   where
     off : (b : Bool) → (b ≡ true → ⊥) → b ≡ false
@@ -105,14 +107,17 @@ module _ (defs : List Def) (facts : Facts defs) (proper : AllProper defs facts) 
       subst (λ a. After (Fine defs s.memory a) (n.from 0 (env_of fun.body at_args.targs vars) s)) same
       (h.run (env_of fun.body at_args.targs vars) s (record { tvars = fun.vars ∙ sym tv; targs = refl; vars = there; frame = tt }) hm)
 
-  -- by induction on the levels
-  pub enter_sound : (levels : ℕ) → CallsSound defs (enter defs levels)
-  enter_sound zero x f types xs s e n oks hs hm = tt
-  enter_sound (suc levels) x f types xs s e n oks hs hm =
+  -- a body is sound where the calls in it are
+  pub called_sound : (calls : src.Calls) → CallsSound defs calls → CallsSound defs (src.body_of defs calls)
+  called_sound calls hk x f types xs s e n oks hs hm =
       let fun = facts.function x f e in
       let Q = Fine defs s.memory (at f.vars types f.result) in
       let at_args : Instance defs = record { tvars = f.vars; targs = types; count = n; typed = oks } in
       let into = entered defs at_args s.memory f.params xs [] fun.distinct hs in
       after_some Q Undefined (src.function_named defs x) fun.body s _ fun.is
       (after_some Q Undefined (params_over fun.body.params xs []) into.vars s _ (ap (λ ps. params_over ps xs []) fun.params ∙ into.is)
-      (body_sound (enter defs levels) (enter_sound levels) x f e at_args refl into.vars s into.there hm))
+      (body_sound calls hk x f e at_args refl into.vars s into.there hm))
+
+  -- by induction on the levels
+  pub enter_sound : (levels : ℕ) → CallsSound defs (enter defs levels)
+  enter_sound = within_holds (CallsSound defs) (src.body_of defs) (λ x f types xs s e n oks hs hm. tt) called_sound

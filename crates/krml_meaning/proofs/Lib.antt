@@ -1,4 +1,3 @@
-pub mod After
 pub mod Bodies
 pub mod Branches
 pub mod Buffers
@@ -6,6 +5,7 @@ pub mod Closing
 pub mod Earlier
 pub mod Entries
 pub mod Evals
+pub mod Examples
 pub mod Facts
 pub mod Files
 pub mod Flat

@@ -21,7 +21,7 @@ use Rattle.krml_meaning.specs.declared.value.Value.TheVariants as v
 use Rattle.krml_meaning.specs.State.{Block, SourceState, SourceRan, as_number, as_truth, as_buffer, as_struct, as_con, number_in, truth_in, buffer_in, struct_in, con_in}
 use Rattle.krml_meaning.specs.Meaning.{field_of}
 use Rattle.krml_meaning.specs.Shape.{number_ty, Usable, HasShape, AllHaveShape, Extends}
-use Rattle.krml_meaning.specs.Sound.{After}
+use Rattle.krml_trace.specs.After.{After}
 use Rattle.krml_meaning.proofs.Lists.{same_some, no_some, same_answer, each_among}
 use Rattle.krml_meaning.proofs.Flat.{holds_erased, holds_at, all_flat}
 use Rattle.krml_meaning.proofs.Facts.{Facts, same_struct}

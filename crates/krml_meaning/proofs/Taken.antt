@@ -28,27 +28,28 @@ use Rattle.krml_meaning.proofs.Branches.{con_args, con_count}
 use Rattle.krml_meaning.proofs.Closing.{close, close_named, close_at, all_are, fields_are}
 use Rattle.krml_meaning.proofs.Scopes.{Instance, VarsTyped, vars_append}
 
-module _ (defs : List Def) (facts : Facts defs) (at_args : Instance defs) where
+module _ (defs : List Def) where
   -- ---- what patterns take, form by form
 
-  takes_any : (y : Value) → takes defs p.Any y ≡ Some []
+  pub takes_any : (y : Value) → takes defs p.Any y ≡ Some []
   takes_any y = rw (fold_out-Pat, p.outs-Any) refl
 
-  takes_bind : (x : List ℕ) (y : Value) → takes defs (p.Bind x) y ≡ Some ((x, y) ∷ [])
+  pub takes_bind : (x : List ℕ) (y : Value) → takes defs (p.Bind x) y ≡ Some ((x, y) ∷ [])
   takes_bind x y = rw (fold_out-Pat, p.outs-Bind) refl
 
-  takes_bool : (b : Bool) (y : Value) → takes defs (p.Bool b) y ≡ taking defs (Pat-F.Bool b) (out-Value y)
+  pub takes_bool : (b : Bool) (y : Value) → takes defs (p.Bool b) y ≡ taking defs (Pat-F.Bool b) (out-Value y)
   takes_bool b y = rw (fold_out-Pat, p.outs-Bool) refl
 
-  takes_num : (i : IntTy) (n : ℕ) (y : Value) → takes defs (p.Num i n) y ≡ taking defs (Pat-F.Num i n) (out-Value y)
+  pub takes_num : (i : IntTy) (n : ℕ) (y : Value) → takes defs (p.Num i n) y ≡ taking defs (Pat-F.Num i n) (out-Value y)
   takes_num i n y = rw (fold_out-Pat, p.outs-Num) refl
 
-  takes_con : (x : List ℕ) (ps : List Pat) (y : Value) → takes defs (p.Con x ps) y ≡ taking defs (Pat-F.Con x (map (takes defs) ps)) (out-Value y)
+  pub takes_con : (x : List ℕ) (ps : List Pat) (y : Value) → takes defs (p.Con x ps) y ≡ taking defs (Pat-F.Con x (map (takes defs) ps)) (out-Value y)
   takes_con x ps y = rw (fold_out-Pat, p.outs-Con) refl
 
-  takes_make : (x : List ℕ) (ps : List Pat) (y : Value) → takes defs (p.Make x ps) y ≡ taking defs (Pat-F.Make x (map (takes defs) ps)) (out-Value y)
+  pub takes_make : (x : List ℕ) (ps : List Pat) (y : Value) → takes defs (p.Make x ps) y ≡ taking defs (Pat-F.Make x (map (takes defs) ps)) (out-Value y)
   takes_make x ps y = rw (fold_out-Pat, p.outs-Make) refl
 
+module _ (defs : List Def) (facts : Facts defs) (at_args : Instance defs) where
   -- ---- what binds no variable
 
   Nothing : Option Variables → Type 0
@@ -149,17 +150,17 @@ module _ (defs : List Def) (facts : Facts defs) (at_args : Instance defs) where
   mutual
     pub taken_typed : (a : Ty) (q : Pat) (types : Vars) → Matches defs a q types → (m : List Block) (y : Value) (vars : Variables) → HasShape defs m y (close defs at_args a)
         → takes defs q y ≡ Some vars → VarsTyped defs at_args m vars types
-    taken_typed a q types Matches.any m y vars h e = typed_none m vars (sym (same_some [] vars (sym (takes_any y) ∙ e)))
+    taken_typed a q types Matches.any m y vars h e = typed_none m vars (sym (same_some [] vars (sym (takes_any defs y) ∙ e)))
     taken_typed a q types (Matches.bind {x = x}) m y vars h e =
-        subst (λ z. VarsTyped defs at_args m z ((x, a) ∷ [])) (same_some ((x, y) ∷ []) vars (sym (takes_bind x y) ∙ e)) (refl, h, tt)
-    taken_typed a q types (Matches.bool {b = b}) m y vars h e = typed_none m vars (is_nothing (taking defs (Pat-F.Bool b) (out-Value y)) vars (nothing_bool b (out-Value y)) (sym (takes_bool b y) ∙ e))
+        subst (λ z. VarsTyped defs at_args m z ((x, a) ∷ [])) (same_some ((x, y) ∷ []) vars (sym (takes_bind defs x y) ∙ e)) (refl, h, tt)
+    taken_typed a q types (Matches.bool {b = b}) m y vars h e = typed_none m vars (is_nothing (taking defs (Pat-F.Bool b) (out-Value y)) vars (nothing_bool b (out-Value y)) (sym (takes_bool defs b y) ∙ e))
     taken_typed a q types (Matches.num {i = i} {n = n} lt) m y vars h e =
-        typed_none m vars (is_nothing (taking defs (Pat-F.Num i n) (out-Value y)) vars (nothing_num i n (out-Value y)) (sym (takes_num i n y) ∙ e))
+        typed_none m vars (is_nothing (taking defs (Pat-F.Num i n) (out-Value y)) vars (nothing_num i n (out-Value y)) (sym (takes_num defs i n y) ∙ e))
     taken_typed a q types (Matches.con {x = x} {c = c} args {ps = ps} is ms) m y vars h e =
-        let k = con_parts x c (facts.con x c is) (map (takes defs) ps) args m (out-Value y) vars (named_in m y c.sum args h) (sym (takes_con x ps y) ∙ e) in
+        let k = con_parts x c (facts.con x c is) (map (takes defs) ps) args m (out-Value y) vars (named_in m y c.sum args h) (sym (takes_con defs x ps y) ∙ e) in
         all_taken (map (at c.vars args) c.args) ps types ms m k.0 vars k.2 k.1
     taken_typed a q types (Matches.make {x = x} {tvars = tvars} {fields = fields} args {ps = ps} is ms) m y vars h e =
-        let k = make_parts x tvars fields is (map (takes defs) ps) args m (out-Value y) vars (named_in m y x args h) (sym (takes_make x ps y) ∙ e) in
+        let k = make_parts x tvars fields is (map (takes defs) ps) args m (out-Value y) vars (named_in m y x args h) (sym (takes_make defs x ps y) ∙ e) in
         all_taken (fields_at tvars args fields) ps types ms m k.0 vars k.2 k.1
 
     all_taken : (kinds : List Ty) (ps : List Pat) (types : Vars) → MatchAll defs kinds ps types → (m : List Block) (xs : List Value) (vars : Variables)

@@ -1,4 +1,3 @@
-pub mod Loop
 pub mod Meaning
 pub mod Shape
 pub mod Sound

@@ -13,10 +13,11 @@ use Rattle.krml_trace.specs.declared.bound.Bound.{Bound}
 use Rattle.krml_trace.specs.declared.outcome.Cause.TheVariants as cause
 use Rattle.krml_trace.specs.declared.outcome.Outcome.{Outcome}
 use Rattle.krml_trace.specs.declared.outcome.Outcome.TheVariants as outcome
-use Rattle.krml_trace.specs.declared.why.Why.TheVariants.{Deep, Stuck, Undefined}
+use Rattle.krml_trace.specs.declared.why.Why.TheVariants.{Stuck, Undefined}
 use Rattle.krml_trace.specs.Width.{bits, same_width}
 use Rattle.krml_trace.specs.Run.{Goes, bind, leave, ends, with_some, check, tick, outcome_of, events_of}
-use Rattle.krml_meaning.specs.Loop.{Turn, Again, Over, loop}
+use Rattle.krml_trace.specs.Loop.{Turn, Again, Over, loop}
+use Rattle.krml_trace.specs.Levels.{within}
 use Rattle.krml_syntax.specs.declared.tree.IntTy.{IntTy}
 use Rattle.krml_syntax.specs.declared.tree.Ty.{Ty, out-Ty}
 use Rattle.krml_syntax.specs.declared.tree.Ty.TheVariants as t
@@ -299,13 +300,19 @@ for_turn x end a env i s = turn_on (nat_lt i end) (λ s. bind (a (with_vars ((x,
 abbrev pub for : List ℕ → Sem → Sem → Sem → Sem
 for x a b c env s = operands W32 W32 a b env s (λ start end s. loop (for_turn x end c env) start s)
 
--- what calls mean: a function, its closed type arguments, its arguments
+-- What is called: a function, its closed type arguments, its arguments.
+pub record Called : Type 0 where
+  pub name : List ℕ
+  pub types : List Ty
+  pub values : List Value
+
+-- what calls mean
 abbrev pub Calls : Type 0
-Calls = List ℕ → List Ty → List Value → SourceState → SourceRan Value
+Calls = Called → SourceState → SourceRan Value
 
 -- (call f (T..) a..): a tick, and then the function
 abbrev pub call : Calls → List ℕ → List Ty → List Sem → Sem
-call calls f args es env s = bind (values es env s) (λ xs s. tick s (λ s. calls f (map (closed env) args) xs s))
+call calls f args es env s = bind (values es env s) (λ xs s. tick s (λ s. calls (record { name = f; types = map (closed env) args; values = xs }) s))
 
 -- ---- what the passes bring
 
@@ -471,12 +478,14 @@ params_over _ _ vars = None
 abbrev pub env_of : Function → List Ty → Variables → Env
 env_of f args vars = record { vars = vars; tvars = f.tvars; targs = args; base = 0 }
 
--- What calls mean with so many levels left: the body of the function, one level deeper.
+-- the body of a function, with its parameters in scope
+abbrev pub body_of : List Def → Calls → Calls
+body_of defs calls c s = with_some Undefined (function_named defs c.name) s (λ f. with_some Undefined (params_over f.params c.values []) s (λ vars.
+    eval defs calls f.body (env_of f c.types vars) s))
+
+-- what calls mean with so many levels left
 abbrev pub enter : List Def → ℕ → Calls
-enter defs zero x args xs s = ends Deep s
-enter defs (suc levels) x args xs s =
-    with_some Undefined (function_named defs x) s (λ f. with_some Undefined (params_over f.params xs []) s (λ vars.
-    eval defs (enter defs levels) f.body (env_of f args vars) s))
+enter defs = within (body_of defs)
 
 -- ---- runs
 

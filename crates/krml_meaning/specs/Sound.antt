@@ -5,8 +5,7 @@ use Rattle.krml_trace.specs.declared.arguments.Arguments.{Arguments}
 use Rattle.krml_trace.specs.declared.bound.Bound.{Bound}
 use Rattle.krml_trace.specs.declared.outcome.Outcome.{Outcome}
 use Rattle.krml_trace.specs.declared.outcome.Outcome.TheVariants as outcome
-use Rattle.krml_trace.specs.declared.why.Why.TheVariants.{Spent, Deep, Stuck, Undefined, Trapped}
-use Rattle.krml_trace.specs.Run.{State, Ran, Goes, Ends}
+use Rattle.krml_trace.specs.After.{After}
 use Rattle.krml_syntax.specs.declared.tree.Ty.{Ty}
 use Rattle.krml_syntax.specs.declared.tree.Expr.TheOpen.{Expr-F}
 use Rattle.krml_syntax.specs.declared.tree.Def.{Def}
@@ -19,16 +18,6 @@ use Rattle.krml_meaning.specs.declared.value.Value.{Value}
 use Rattle.krml_meaning.specs.State.{Block, SourceState}
 use Rattle.krml_meaning.specs.Meaning.{ArgumentsFit, source_run}
 use Rattle.krml_meaning.specs.Shape.{HasShape, MemoryTyped, Extends}
-
--- Where a run goes on, this holds of its value and state. Where it ends, that is for want of ticks or levels, or because it
--- is stuck: never Undefined, and never Trapped.
-abbrev pub After : {E B A : Type 0} → (A → State E B → Type 0) → Ran E B A → Type 0
-After P (Goes a s) = P a s
-After P (Ends Undefined es) = ⊥
-After P (Ends Trapped es) = ⊥
-After P (Ends Spent es) = Unit {0}
-After P (Ends Deep es) = Unit {0}
-After P (Ends (Stuck c) es) = Unit {0}
 
 -- The value has the type, in a typed memory that extends the one before.
 pub record Fine (defs : List Def) (m : List Block) (a : Ty) (x : Value) (s : SourceState) : Type 0 where

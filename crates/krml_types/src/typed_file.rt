@@ -40,4 +40,13 @@ impl TypedFile {
     {
         &self.inner
     }
+
+    /// The file, taken out.
+    pub fn into_file(self) -> SourceFile
+        ensures value { result ≡ self }
+        ensures typed { AreWellTyped self.defs }
+    {
+        let TypedFile { inner, .. } = self;
+        inner
+    }
 }
