@@ -96,6 +96,22 @@ comma = symbol 44 (record { no_run = refl; no_twin = refl; no_head = refl }) ref
 pub semicolon : Cuts Any (59 ∷ []) ((59 ∷ []) ∷ [])
 semicolon = symbol 59 (record { no_run = refl; no_twin = refl; no_head = refl }) refl
 
+-- `[`
+pub open_bracket : Cuts Any (91 ∷ []) ((91 ∷ []) ∷ [])
+open_bracket = symbol 91 (record { no_run = refl; no_twin = refl; no_head = refl }) refl
+
+-- `]`
+pub close_bracket : Cuts Any (93 ∷ []) ((93 ∷ []) ∷ [])
+close_bracket = symbol 93 (record { no_run = refl; no_twin = refl; no_head = refl }) refl
+
+-- `*`
+pub star : Cuts Any (42 ∷ []) ((42 ∷ []) ∷ [])
+star = symbol 42 (record { no_run = refl; no_twin = refl; no_head = refl }) refl
+
+-- `.`
+pub dot : Cuts Any (46 ∷ []) ((46 ∷ []) ∷ [])
+dot = symbol 46 (record { no_run = refl; no_twin = refl; no_head = refl }) refl
+
 -- a space
 pub space : Cuts Any (32 ∷ []) []
 space = white 32 (record { no_run = refl; no_twin = refl; no_head = refl }) refl

@@ -1,10 +1,11 @@
 pub mod Again
 pub mod Arms
+pub mod Blocks
 pub mod Cut
-pub mod Locals
+pub mod Examples
+pub mod Many
 pub mod Names
 pub mod Parse
 pub mod Spelled
-pub mod Steps
 pub mod Unique
 pub mod Written

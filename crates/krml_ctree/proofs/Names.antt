@@ -1,8 +1,8 @@
--- The words of a program are runs, and their first bytes tell them apart.
-use Rattle.std.proofs.Common.{◌≡◌, ℕ, ◌<◌, ◌^◌, Bool, true, false, ◌&&◌, if◌then◌else◌, ◌==◌, List, [], ◌∷◌, ◌++◌, length, codes, Option, Some, None, refl, subst, append-nil, arith, rules}
+-- The words of a program are runs, and what the reading asks of them.
+use Rattle.std.proofs.Common.{◌≡◌, ℕ, zero, suc, ◌<◌, ◌^◌, ◌/◌, ◌%◌, Bool, true, false, ◌&&◌, if◌then◌else◌, ◌==◌, List, [], ◌∷◌, ◌++◌, length, codes, refl, sym, ap, ◌∙◌, append-nil, arith, rules}
 use Rattle.std.proofs.lemmas.Bool.Decides.{nat_tests}
 use Rattle.std.specs.List.{list_all}
-use Rattle.std.specs.Fmt.{decimal}
+use Rattle.std.specs.Fmt.{decimal, digits, digits_onto, digit_glyph}
 use Rattle.std.specs.Char.{is_ascii_digit}
 use Rattle.std.specs.Str.{bytes_eq}
 use Rattle.std.specs.Str.Parse.{digits_value}
@@ -10,13 +10,12 @@ use Rattle.std.proofs.lemmas.Fmt.{digits_decimal, digits_value-decimal, decimal_
 use Rattle.std.proofs.lemmas.Str.Parse.{IsNumeralModel, numerals_by_value}
 use Rattle.krml_trace.specs.Byte.{is_letter, is_digit, is_name_byte}
 use Rattle.krml_trace.specs.Name.{is_name, IsName}
+use Rattle.krml_trace.specs.Width.{bits}
 use Rattle.krml_trace.specs.declared.width.Width.{Width}
-use Rattle.krml_ctree.specs.declared.tree.CType.{CType}
-use Rattle.krml_ctree.specs.declared.tree.CType.TheVariants.{U8, U32, U64}
-use Rattle.krml_ctree.specs.Text.{type_word, number, result_word}
-use Rattle.krml_ctree.specs.Shape.{is_decimal, IsVariable, IsFunction, IsLiteral}
+use Rattle.krml_trace.specs.declared.width.Width.TheVariants.{W8, W32, W64}
+use Rattle.krml_ctree.specs.Text.{number, width_word}
+use Rattle.krml_ctree.specs.Shape.{is_decimal, IsVariable, IsFunction, IsStruct, IsTable, IsField, IsLiteral}
 use Rattle.krml_ctree.proofs.Cut.{IsRun, halves}
-use Rattle.krml_ctree.proofs.Parse.{begins_variable, begins_digit, front_digits, type_at, width_at, result_at, Start, start_of}
 
 -- all bytes are name bytes
 abbrev pub AllNamed : List ℕ → Type 0
@@ -50,11 +49,6 @@ numeral_digits (b ∷ c ∷ k) h = at (b == 48) h
     at true q = absurd (cc)
     at false q = q
 
--- and has one at least
-numeral_begins : (k : List ℕ) → is_decimal k ≡ true → (b : ℕ) × (rest : List ℕ) × (k ≡ b ∷ rest) × (is_digit b ≡ true)
-numeral_begins [] h = absurd (cc)
-numeral_begins (b ∷ k) h = (b, k, refl, (halves (is_digit b) (list_all is_digit k) (numeral_digits (b ∷ k) h)).0)
-
 -- the bytes of a number are name bytes
 numeral_named : (k : List ℕ) → is_decimal k ≡ true → AllNamed k
 numeral_named k h = digits_named k (numeral_digits k h)
@@ -86,19 +80,29 @@ pub function_run : {x : List ℕ} → IsFunction x → IsRun x
 function_run (IsFunction.plain name n) = name_named name n
 function_run (IsFunction.instance_of k name h n) = behind_number k name h n
 
--- a type is a run
-pub type_run : (ty : CType) → IsRun (type_word ty)
-type_run U8 = refl
-type_run U32 = refl
-type_run U64 = refl
+-- so is that of a struct
+pub struct_run : {x : List ℕ} → IsStruct x → IsRun x
+struct_run (IsStruct.plain name n) = name_named name n
+struct_run (IsStruct.instance_of k name h n) = behind_number k name h n
 
--- a result type is a run
-pub result_run : (r : Option CType) → IsRun (result_word r)
-result_run None = refl
-result_run (Some ty) = type_run ty
+-- that of a table
+pub table_run : {x : List ℕ} → IsTable x → IsRun x
+table_run (IsTable.plain name n) = name_named name n
+
+-- and that of a field
+pub field_run : {x : List ℕ} → IsField x → IsRun x
+field_run (IsField.plain name n) = name_named name n
+field_run IsField.tag = refl
+field_run (IsField.argument k j h l) = named_both k (codes "_" ++ j) (numeral_named k h) (numeral_named j l)
+
+-- the word of a width is a run
+pub width_run : (w : Width) → IsRun (width_word w)
+width_run W8 = refl
+width_run W32 = refl
+width_run W64 = refl
 
 -- decimal digits and their value
-pub own : IsNumeralModel (λ ds. list_all is_ascii_digit ds ≡ true) (digits_value 10)
+own : IsNumeralModel (λ ds. list_all is_ascii_digit ds ≡ true) (digits_value 10)
 own = numerals_by_value _ (search rules)
 
 -- std's digits are the digits
@@ -117,6 +121,28 @@ decimal_named n h = at (decimal n) (digits_decimal own n h)
     at [] q = refl
     at (b ∷ w) q = let p = halves (is_ascii_digit b) (list_all is_ascii_digit w) q in named_one b w (ascii_named b p.0) (at w p.1)
 
+-- so is a last digit
+glyph_named : (n : ℕ) → is_name_byte (digit_glyph false (n % 10)) ≡ true
+glyph_named n = let l : n % 10 < 10 = omega arith in grind (arith, nat_tests)
+
+-- and digits before others are a run
+onto_run : (k n : ℕ) (more : List ℕ) → AllNamed more → IsRun (digits_onto (suc k) 10 false n more)
+onto_run zero n more h = at (n / 10 == 0)
+  where
+    at : (x : Bool) → IsRun (if x then digit_glyph false (n % 10) ∷ more else digit_glyph false (n % 10) ∷ more)
+    at true = named_one (digit_glyph false (n % 10)) more (glyph_named n) h
+    at false = named_one (digit_glyph false (n % 10)) more (glyph_named n) h
+onto_run (suc k) n more h = at (n / 10 == 0) (onto_run k (n / 10) (digit_glyph false (n % 10) ∷ more) (named_one (digit_glyph false (n % 10)) more (glyph_named n) h))
+  where
+    at : (x : Bool) → IsRun (digits_onto (suc k) 10 false (n / 10) (digit_glyph false (n % 10) ∷ more)) → IsRun (if x then digit_glyph false (n % 10) ∷ more else digits_onto (suc k) 10 false (n / 10) (digit_glyph false (n % 10) ∷ more))
+    at true r = named_one (digit_glyph false (n % 10)) more (glyph_named n) h
+    at false r = r
+
+-- each decimal number is one
+pub decimal_run : (n : ℕ) → IsRun (decimal n)
+unfolding digits
+decimal_run n = onto_run 63 n [] refl
+
 -- a decimal number begins with a digit
 decimal_begins : (n : ℕ) → n < 2 ^ 64 → (b : ℕ) × (rest : List ℕ) × (decimal n ≡ b ∷ rest) × (is_digit b ≡ true)
 decimal_begins n h = at (decimal n) (digits_decimal own n h) (decimal_nonempty n h)
@@ -126,7 +152,7 @@ decimal_begins n h = at (decimal n) (digits_decimal own n h) (decimal_nonempty n
     at (b ∷ w) q l = (b, w, refl, ascii_digit b (halves (is_ascii_digit b) (list_all is_ascii_digit w) q).0)
 
 -- the digits of a number and its suffix
-suffixed_run : (n : ℕ) (suffix : List ℕ) → n < 2 ^ 64 → AllNamed suffix → IsRun (decimal n ++ suffix)
+pub suffixed_run : (n : ℕ) (suffix : List ℕ) → n < 2 ^ 64 → AllNamed suffix → IsRun (decimal n ++ suffix)
 suffixed_run n suffix h k = let d = decimal_begins n h in at (decimal n) d.0 d.1 d.2 (decimal_named n h)
   where
     at : (w : List ℕ) (b : ℕ) (rest : List ℕ) → w ≡ b ∷ rest → AllNamed w → IsRun (w ++ suffix)
@@ -134,38 +160,24 @@ suffixed_run n suffix h k = let d = decimal_begins n h in at (decimal n) d.0 d.1
     at (c ∷ w) b rest e a = named_both (c ∷ w) suffix a k
 
 -- a number is a run
-pub literal_run : {w : Width} {n : ℕ} → IsLiteral w n → IsRun (number w n)
-literal_run (IsLiteral.short {n = n} h) = suffixed_run n (codes "u") (omega arith) refl
-literal_run (IsLiteral.long {n = n} h) = suffixed_run n (codes "ull") h refl
+pub number_run : (w : Width) (n : ℕ) → n < 2 ^ bits w → IsRun (number w n)
+number_run W8 n h = suffixed_run n (codes "u") (omega arith) refl
+number_run W32 n h = suffixed_run n (codes "u") (omega arith) refl
+number_run W64 n h = suffixed_run n (codes "ull") h refl
 
--- a variable begins with `v` and a digit
-begins_so : (k w : List ℕ) → is_decimal k ≡ true → begins_variable (118 ∷ (k ++ w)) ≡ true
-begins_so k w h = let n = numeral_begins k h in at k n.0 n.1 n.2 n.3
-  where
-    at : (j : List ℕ) (b : ℕ) (rest : List ℕ) → j ≡ b ∷ rest → is_digit b ≡ true → begins_variable (118 ∷ (j ++ w)) ≡ true
-    at j b rest e d = rw (e, d) refl
+-- a literal fits its width
+pub literal_fits : {w : Width} {n : ℕ} → IsLiteral w n → n < 2 ^ bits w
+literal_fits (IsLiteral.short h) = h
+literal_fits (IsLiteral.long h) = h
 
--- so the reading knows a variable
-pub variable_begins : {x : List ℕ} → IsVariable x → begins_variable x ≡ true
-variable_begins (IsVariable.plain k h) = subst (λ w. begins_variable (118 ∷ w) ≡ true) (append-nil k) (begins_so k [] h)
-variable_begins (IsVariable.named k name h n) = begins_so k (codes "_" ++ name) h
+-- the digits at the front
+abbrev pub front_digits : List ℕ → List ℕ
+front_digits [] = []
+front_digits (b ∷ w) = if is_digit b then b ∷ front_digits w else []
 
--- a variable is no `(`
-pub variable_no_paren : {x : List ℕ} → IsVariable x → bytes_eq x (codes "(") ≡ false
-variable_no_paren (IsVariable.plain k h) = refl
-variable_no_paren (IsVariable.named k name h n) = refl
-
--- a variable is no `else`
-pub variable_no_else : {x : List ℕ} → IsVariable x → bytes_eq x (codes "else") ≡ false
-variable_no_else (IsVariable.plain k h) = refl
-variable_no_else (IsVariable.named k name h n) = refl
-
--- a number begins with a digit, and its digits are before its suffix
-suffixed_begins : (n : ℕ) (suffix : List ℕ) → n < 2 ^ 64 → begins_digit (decimal n ++ suffix) ≡ true
-suffixed_begins n suffix h = let d = decimal_begins n h in at (decimal n) d.0 d.1 d.2 d.3
-  where
-    at : (w : List ℕ) (b : ℕ) (rest : List ℕ) → w ≡ b ∷ rest → is_digit b ≡ true → begins_digit (w ++ suffix) ≡ true
-    at w b rest e d = rw (e, d) refl
+-- the number that digits at the front are of
+abbrev pub front_value : List ℕ → ℕ
+front_value w = digits_value 10 (front_digits w)
 
 -- the digits before what begins with none
 front_is : (w suffix : List ℕ) → list_all is_ascii_digit w ≡ true → front_digits suffix ≡ [] → front_digits (w ++ suffix) ≡ w
@@ -173,53 +185,63 @@ front_is [] suffix h e = e
 front_is (b ∷ w) suffix h e = let p = halves (is_ascii_digit b) (list_all is_ascii_digit w) h in rw (ascii_digit b p.0, front_is w suffix p.1 e) refl
 
 -- a number before its suffix has its value
-suffixed_value : (n : ℕ) (suffix : List ℕ) → n < 2 ^ 64 → front_digits suffix ≡ [] → digits_value 10 (front_digits (decimal n ++ suffix)) ≡ n
+pub suffixed_value : (n : ℕ) (suffix : List ℕ) → n < 2 ^ 64 → front_digits suffix ≡ [] → front_value (decimal n ++ suffix) ≡ n
 suffixed_value n suffix h e = rw (front_is (decimal n) suffix (digits_decimal own n h) e) (digits_value-decimal own n h)
 
+-- a number without a suffix has its value
+pub decimal_value : (n : ℕ) → n < 2 ^ 64 → front_value (decimal n) ≡ n
+decimal_value n h = ap front_value (sym (append-nil (decimal n))) ∙ suffixed_value n [] h refl
+
 -- so the reading knows a number
-pub literal_begins : {w : Width} {n : ℕ} → IsLiteral w n → begins_digit (number w n) ≡ true
-literal_begins (IsLiteral.short {n = n} h) = suffixed_begins n (codes "u") (omega arith)
-literal_begins (IsLiteral.long {n = n} h) = suffixed_begins n (codes "ull") h
+pub number_value : (w : Width) (n : ℕ) → n < 2 ^ bits w → front_value (number w n) ≡ n
+number_value W8 n h = suffixed_value n (codes "u") (omega arith) refl
+number_value W32 n h = suffixed_value n (codes "u") (omega arith) refl
+number_value W64 n h = suffixed_value n (codes "ull") h refl
 
--- and its value
-pub literal_value : {w : Width} {n : ℕ} → IsLiteral w n → digits_value 10 (front_digits (number w n)) ≡ n
-literal_value (IsLiteral.short {n = n} h) = suffixed_value n (codes "u") (omega arith) refl
-literal_value (IsLiteral.long {n = n} h) = suffixed_value n (codes "ull") h refl
+-- the first byte of a word
+abbrev pub initial : List ℕ → ℕ
+initial [] = 0
+initial (b ∷ w) = b
 
--- a variable is no type
-pub variable_no_width : {x : List ℕ} → IsVariable x → width_at x ≡ None
-variable_no_width (IsVariable.plain k h) = refl
-variable_no_width (IsVariable.named k name h n) = refl
+-- a number before its suffix begins with a digit
+suffixed_begins : (n : ℕ) (suffix : List ℕ) → n < 2 ^ 64 → is_digit (initial (decimal n ++ suffix)) ≡ true
+suffixed_begins n suffix h = let d = decimal_begins n h in at (decimal n) d.0 d.1 d.2 d.3
+  where
+    at : (w : List ℕ) (b : ℕ) (rest : List ℕ) → w ≡ b ∷ rest → is_digit b ≡ true → is_digit (initial (w ++ suffix)) ≡ true
+    at w b rest e d = rw (e, d) refl
 
--- a type is no `else`
-pub type_no_else : (ty : CType) → bytes_eq (type_word ty) (codes "else") ≡ false
-type_no_else U8 = refl
-type_no_else U32 = refl
-type_no_else U64 = refl
+-- so does a number
+pub number_begins : (w : Width) (n : ℕ) → n < 2 ^ bits w → is_digit (initial (number w n)) ≡ true
+number_begins W8 n h = suffixed_begins n (codes "u") (omega arith)
+number_begins W32 n h = suffixed_begins n (codes "u") (omega arith)
+number_begins W64 n h = suffixed_begins n (codes "ull") h
 
--- a type is no `void`
-pub type_no_void : (ty : CType) → bytes_eq (type_word ty) (codes "void") ≡ false
-type_no_void U8 = refl
-type_no_void U32 = refl
-type_no_void U64 = refl
+-- a variable is no `*`
+pub variable_no_star : {x : List ℕ} → IsVariable x → bytes_eq x (codes "*") ≡ false
+variable_no_star (IsVariable.plain k h) = refl
+variable_no_star (IsVariable.named k name h n) = refl
 
--- a type is read again
-pub type_again : (ty : CType) → type_at (type_word ty) ≡ Some ty
-type_again U8 = refl
-type_again U32 = refl
-type_again U64 = refl
+-- nor is a function
+pub function_no_star : {x : List ℕ} → IsFunction x → bytes_eq x (codes "*") ≡ false
+function_no_star (IsFunction.plain name n) = refl
+function_no_star (IsFunction.instance_of k name h n) = refl
 
--- a result type is read again
-pub result_again : (r : Option CType) → result_at (result_word r) ≡ Some r
-result_again None = refl
-result_again (Some ty) = rw (type_no_void ty, type_again ty) refl
+-- nor is a field
+pub field_no_star : {x : List ℕ} → IsField x → bytes_eq x (codes "*") ≡ false
+field_no_star (IsField.plain name n) = refl
+field_no_star IsField.tag = refl
+field_no_star (IsField.argument k j h l) = refl
 
--- a type begins a declaration
-pub type_starts : (ty : CType) → start_of (type_word ty) ≡ Start.Declares ty
-type_starts U8 = refl
-type_starts U32 = refl
-type_starts U64 = refl
+-- and opens no brace
+pub function_no_brace : {x : List ℕ} → IsFunction x → bytes_eq x (codes "{") ≡ false
+function_no_brace (IsFunction.plain name n) = refl
+function_no_brace (IsFunction.instance_of k name h n) = refl
 
--- a variable begins an assignment
-pub variable_starts : {x : List ℕ} → IsVariable x → start_of x ≡ Start.Assigns
-variable_starts h = rw (variable_begins h) refl
+-- a digit is no `}`
+digit_no_brace : (w : List ℕ) → is_digit (initial w) ≡ true → bytes_eq w (codes "}") ≡ false
+digit_no_brace [] h = absurd (cc)
+digit_no_brace (b ∷ w) h = let e : (b == 125) ≡ false = grind (arith, nat_tests) in rw e refl
+
+-- nor is a number
+pub number_no_brace : (w : Width) (n : ℕ) → n < 2 ^ bits w → bytes_eq (number w n) (codes "}") ≡ false
+number_no_brace w n h = digit_no_brace (number w n) (number_begins w n h)

@@ -12,7 +12,7 @@ use Rattle.krml_ctree.proofs.Written.{program_cuts}
 use Rattle.krml_ctree.proofs.Unique.{same_tokens}
 
 -- the tokens behind the first line
-tokens_again : (p : CProgram) → KeepsShapes p → tokens (10 ∷ program as_text p) ≡ tokens_of p
+pub tokens_again : (p : CProgram) → KeepsShapes p → tokens (10 ∷ program as_text p) ≡ tokens_of p
 tokens_again p h =
     line_feed.cut (program as_text p) tt
     ∙ ap tokens (sym (append-nil (program as_text p)))

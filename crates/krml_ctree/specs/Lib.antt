@@ -1,5 +1,5 @@
-pub mod Evaluate
 pub mod Meaning
+pub mod Parts
 pub mod Shape
 pub mod Spelling
 pub mod Text

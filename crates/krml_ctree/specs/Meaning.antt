@@ -1,9 +1,8 @@
 -- What a program means: the run of a function on arguments, under a bound.
--- An expression is pure: it has a value among the local variables, or none. A statement means a step from the local
--- variables and a state to the local variables then. Each form has one combinator on the meanings of its parts, and the
--- tables `value_step` and `statement_step` say which. What is not defined here is Undefined from the place where it is
--- met. A number is converted to no other type by itself. The clauses cited are of ISO/IEC 9899:2011.
-use Rattle.std.specs.Prelude.{ℕ, zero, suc, ◌+◌, ◌-◌, ◌%◌, ◌^◌, Bool, true, false, ◌&&◌, if◌then◌else◌, nat_lt, List, [], ◌∷◌, map, length, drop, filter, Option, Some, None, option_map, option_and_then}
+-- An expression is pure: it has a value among the variables in scope, or none. A statement means a step from these and a
+-- state to those in scope then. Each form has one combinator on the meanings of its parts. What is not defined here is
+-- Undefined from the place where it is met. The clauses cited are of ISO/IEC 9899:2011.
+use Rattle.std.specs.Prelude.{ℕ, suc, ◌+◌, ◌-◌, ◌*◌, ◌/◌, ◌%◌, ◌^◌, ◌==◌, Bool, true, false, not, ◌&&◌, if◌then◌else◌, nat_lt, nat_le, bit_and, bit_or, bit_xor, List, [], ◌∷◌, ◌++◌, map, length, take, reverse, replicate, Option, Some, None, IsSome, option_map, option_and_then, unwrap_or, slice_get}
 use Rattle.std.specs.Str.{bytes_eq}
 use Rattle.krml_trace.specs.declared.width.Width.{Width}
 use Rattle.krml_trace.specs.declared.width.Width.TheVariants.{W8, W32, W64}
@@ -16,82 +15,40 @@ use Rattle.krml_trace.specs.declared.outcome.Outcome.TheVariants as outcome
 use Rattle.krml_trace.specs.declared.why.Why.TheVariants.{Undefined}
 use Rattle.krml_trace.specs.Width.{bits, same_width}
 use Rattle.krml_trace.specs.Argument.{fits_width}
-use Rattle.krml_trace.specs.Run.{State, Ran, Goes, bind, leave, ends, with_some, check, outcome_of, events_of}
+use Rattle.krml_trace.specs.Run.{Goes, bind, leave, ends, with_some, check, tick, outcome_of, events_of}
+use Rattle.krml_trace.specs.Loop.{Turn, Again, Over, loop}
+use Rattle.krml_trace.specs.Levels.{within}
 use Rattle.krml_ctree.specs.declared.event.CEvent.{CEvent}
 use Rattle.krml_ctree.specs.declared.event.CEvent.TheVariants as event
+use Rattle.krml_ctree.specs.declared.event.CSlot.{CSlot}
 use Rattle.krml_ctree.specs.declared.value.CValue.{CValue}
-use Rattle.krml_ctree.specs.declared.value.CValue.TheVariants as value
-use Rattle.krml_ctree.specs.declared.value.CLocal.{CLocal}
+use Rattle.krml_ctree.specs.declared.value.CValue.TheVariants as v
 use Rattle.krml_ctree.specs.declared.run.CRun.{CRun}
-use Rattle.krml_ctree.specs.declared.tree.CType.{CType}
-use Rattle.krml_ctree.specs.declared.tree.CType.TheVariants.{U8, U32, U64}
+use Rattle.krml_ctree.specs.declared.tree.CType.{CType, out-CType}
+use Rattle.krml_ctree.specs.declared.tree.CType.TheVariants as t
+use Rattle.krml_ctree.specs.declared.tree.CType.TheOpen.{CType-F}
 use Rattle.krml_ctree.specs.declared.tree.CBin.{CBin}
-use Rattle.krml_ctree.specs.declared.tree.CBin.TheVariants.{Add}
+use Rattle.krml_ctree.specs.declared.tree.CBin.TheVariants as op
 use Rattle.krml_ctree.specs.declared.tree.CmpKind.{CmpKind}
-use Rattle.krml_ctree.specs.declared.tree.CmpKind.TheVariants.{Lt}
+use Rattle.krml_ctree.specs.declared.tree.CmpKind.TheVariants as cmp
 use Rattle.krml_ctree.specs.declared.tree.CVar.{CVar}
+use Rattle.krml_ctree.specs.declared.tree.CArray.{CArray}
 use Rattle.krml_ctree.specs.declared.tree.CExpr.{CExpr}
 use Rattle.krml_ctree.specs.declared.tree.CExpr.TheOpen.{CExpr-F}
 use Rattle.krml_ctree.specs.declared.tree.CExpr.TheFolds.{fold-CExpr}
 use Rattle.krml_ctree.specs.declared.tree.CStatement.{CStatement}
 use Rattle.krml_ctree.specs.declared.tree.CStatement.TheOpen.{CStatement-F, CArm-F}
-use Rattle.krml_ctree.specs.declared.tree.CStatement.TheFolds.{fold-CStatement, fold-CArm}
-use Rattle.krml_ctree.specs.declared.tree.CArm.{CArm}
+use Rattle.krml_ctree.specs.declared.tree.CStatement.TheFolds.{fold-CStatement}
 use Rattle.krml_ctree.specs.declared.tree.CFun.{CFun}
 use Rattle.krml_ctree.specs.declared.tree.CProgram.{CProgram}
+use Rattle.krml_ctree.specs.Text.{width_type}
+use Rattle.krml_ctree.specs.Parts.{CBlock, CState, CRan, Local, Locals, the_only, local_of, struct_named, function_named, table_named, is_known, has_type, as_number, as_number_of, as_pointer, as_struct, as_truth, set, close, put, close_from}
 
--- A block of memory: its elements, each with a value or without.
-abbrev pub CBlock : Type 0
-CBlock = List (Option CValue)
+-- ---- expressions
 
-abbrev pub CState : Type 0
-CState = State CEvent CBlock
-
-abbrev pub CRan : Type 0 → Type 0
-CRan A = Ran CEvent CBlock A
-
--- Whether a value is of a type.
-abbrev pub has_type : CValue → CType → Bool
-has_type (value.Num W8 n) U8 = true
-has_type (value.Num W32 n) U32 = true
-has_type (value.Num W64 n) U64 = true
-has_type _ _ = false
-
--- The parameters and variables in scope, the newest first.
-abbrev pub Locals : Type 0
-Locals = List CLocal
-
-abbrev pub is_named : List ℕ → CLocal → Bool
-is_named x l = bytes_eq l.name x
-
-abbrev pub the_only : {A : Type 0} → List A → Option A
-the_only [] = None
-the_only (a ∷ []) = Some a
-the_only (a ∷ b ∷ rest) = None
-
--- The variable of a name, which is defined where exactly one in scope has it.
-abbrev pub local_of : Locals → List ℕ → Option CLocal
-local_of locals x = the_only (filter (is_named x) locals)
-
--- its type
-abbrev pub type_of : Locals → List ℕ → Option CType
-type_of locals x = option_map (λ (l : CLocal). l.ty) (local_of locals x)
-
--- The variables with a value for the one of a name.
-abbrev pub set_in : List ℕ → CValue → CLocal → CLocal
-set_in x v l = if is_named x l then record l { value = Some v } else l
-
-abbrev pub set : List ℕ → CValue → Locals → Locals
-set x v locals = map (set_in x v) locals
-
--- At the end of a scope the variables that it declared go (6.2.1p4, 6.2.4p6). Those from before stay, with their values
--- of now.
-abbrev pub close : Locals → Locals → Locals
-close before now = drop (length now - length before) now
-
--- What an expression means.
+-- What an expression means: a value among the blocks and the variables in scope.
 abbrev pub CSem : Type 0
-CSem = Locals → Option CValue
+CSem = List CBlock → Locals → Option CValue
 
 -- Numbers that are computed with have width 32 or 64. With `int` of 32 bits the integer promotions leave these as they are
 -- (6.3.1.1p2).
@@ -100,49 +57,122 @@ is_wide W8 = false
 is_wide W32 = true
 is_wide W64 = true
 
--- Two numbers of one width, 32 or 64, and what comes of them.
-abbrev pub combined : (Width → ℕ → ℕ → CValue) → CValue → CValue → Option CValue
-combined f (value.Num w m) (value.Num v n) = if is_wide w && same_width w v then Some (f w m n) else None
+abbrev pub where_true : {A : Type 0} → Bool → A → Option A
+where_true b a = if b then Some a else None
 
-abbrev pub operands : (Width → ℕ → ℕ → CValue) → CSem → CSem → CSem
-operands f a b locals = option_and_then (λ x. option_and_then (λ y. combined f x y) (b locals)) (a locals)
+-- two values, and what comes of them
+abbrev pub both : CSem → CSem → (CValue → CValue → Option CValue) → List CBlock → Locals → Option CValue
+both a b f m locals = option_and_then (λ x. option_and_then (λ y. f x y) (b m locals)) (a m locals)
+
+-- two numbers of one width, 32 or 64
+abbrev pub numbers : (Width → ℕ → ℕ → Option CValue) → CValue → CValue → Option CValue
+numbers f x y = option_and_then (λ p. option_and_then (λ q. if is_wide p.0 && same_width p.0 q.0 then f p.0 p.1 q.1 else None) (as_number y)) (as_number x)
+
+abbrev pub number_of : CBin → Width → ℕ → ℕ → ℕ
+number_of op.Add w m n = (m + n) % 2 ^ bits w
+number_of op.Sub w m n = ((m + 2 ^ bits w) - n) % 2 ^ bits w
+number_of op.Mul w m n = (m * n) % 2 ^ bits w
+number_of op.And w m n = bit_and m n
+number_of op.Or w m n = bit_or m n
+number_of op.Xor w m n = bit_xor m n
+number_of op.Shl w m n = (m * 2 ^ n) % 2 ^ bits w
+number_of op.Shr w m n = m / 2 ^ n
+
+-- a shift by a 32-bit amount below the width (6.5.7p3)
+abbrev pub shift : CBin → CValue → CValue → Option CValue
+shift o x y = option_and_then (λ p. option_and_then (λ n. where_true (is_wide p.0 && nat_lt n (bits p.0)) (v.Num p.0 (number_of o p.0 p.1 n))) (as_number_of W32 y)) (as_number x)
+
+abbrev pub arithmetic : CBin → CValue → CValue → Option CValue
+arithmetic o x y = numbers (λ w m n. Some (v.Num w (number_of o w m n))) x y
+
+-- a pointer moved up to a position of at most the block's length (6.5.6p8)
+abbrev pub moved : List CBlock → ℕ × ℕ → CValue → Option CValue
+moved m p y = option_and_then (λ i. option_and_then (λ b. where_true (nat_le (p.1 + i) (length b.items)) (v.Ptr p.0 (p.1 + i))) (slice_get m p.0)) (as_number_of W32 y)
+
+abbrev pub sum_of : List CBlock → Option (ℕ × ℕ) → CValue → CValue → Option CValue
+sum_of m (Some p) x y = moved m p y
+sum_of m None x y = arithmetic op.Add x y
+
+abbrev pub bin_value : List CBlock → CBin → CValue → CValue → Option CValue
+bin_value m op.Add x y = sum_of m (as_pointer x) x y
+bin_value m op.Shl x y = shift op.Shl x y
+bin_value m op.Shr x y = shift op.Shr x y
+bin_value m o x y = arithmetic o x y
+
+abbrev pub compared : CmpKind → ℕ → ℕ → Bool
+compared cmp.Eq m n = m == n
+compared cmp.Ne m n = not (m == n)
+compared cmp.Lt m n = nat_lt m n
+compared cmp.Le m n = nat_le m n
+compared cmp.Gt m n = nat_lt n m
+compared cmp.Ge m n = nat_le n m
 
 -- x: its value, where it has one
 abbrev pub var : List ℕ → CSem
-var x locals = option_and_then (λ (l : CLocal). l.value) (local_of locals x)
+var x m locals = option_and_then (λ l. l.value) (local_of locals x)
 
 -- ((uint32_t)5u), of width 32 or 64: the number, which is to fit the width
 abbrev pub lit : Width → ℕ → CSem
-lit w n locals = if is_wide w && fits_width w n then Some (value.Num w n) else None
+lit w n m locals = where_true (is_wide w && fits_width w n) (v.Num w n)
 
--- the sum (6.5.6p5), modulo 2 to the width (6.2.5p9)
-abbrev pub bin_value : CBin → Width → ℕ → ℕ → ℕ
-bin_value Add w m n = (m + n) % 2 ^ bits w
+-- ((uint8_t)a): the value modulo 2 to the width (6.3.1.3p2)
+abbrev pub cast : Width → CSem → CSem
+cast w a m locals = option_and_then (λ x. option_map (λ p. v.Num w (p.1 % 2 ^ bits w)) (as_number x)) (a m locals)
 
--- (a + b)
+-- (a + b), and so on
 abbrev pub bin : CBin → CSem → CSem → CSem
-bin op a b = operands (λ w m n. value.Num w (bin_value op w m n)) a b
+bin o a b m locals = both a b (bin_value m o) m locals
 
-abbrev pub cmp_value : CmpKind → ℕ → ℕ → Bool
-cmp_value Lt m n = nat_lt m n
+-- ((uint8_t)(a < b)): 1 where it holds, else 0 (6.5.8p6), as a number of width w
+abbrev pub comparison : Width → CmpKind → CSem → CSem → CSem
+comparison w o a b m locals = both a b (numbers (λ u i j. Some (v.Num w (if compared o i j then 1 else 0)))) m locals
 
--- ((uint8_t)(a < b)): 1 where it holds, else 0 (6.5.8p6), as a number of width u
-abbrev pub cmp : Width → CmpKind → CSem → CSem → CSem
-cmp u op a b = operands (λ w m n. value.Num u (if cmp_value op m n then 1 else 0)) a b
+abbrev pub all_of : List CSem → List CBlock → Locals → Option (List CValue)
+all_of [] m locals = Some []
+all_of (a ∷ more) m locals = option_and_then (λ x. option_map (λ xs. x ∷ xs) (all_of more m locals)) (a m locals)
 
-abbrev pub value_step : CExpr-F CSem → CSem
-value_step (CExpr-F.Var x) = var x
-value_step (CExpr-F.Lit w n) = lit w n
-value_step (CExpr-F.Bin op a b) = bin op a b
-value_step (CExpr-F.Cmp w op a b) = cmp w op a b
+-- values for variables, one by one, each of its type
+abbrev pub fit : List CBlock → List CVar → List CValue → Bool
+fit m [] [] = true
+fit m (p ∷ vars) (x ∷ xs) = has_type m x p.ty && fit m vars xs
+fit m _ _ = false
+
+-- ((struct S){a, b})
+abbrev pub build : CProgram → List ℕ → List CSem → CSem
+build p x es m locals = option_and_then (λ s. option_and_then (λ xs. where_true (fit m s.fields xs) (v.Struct x xs)) (all_of es m locals)) (struct_named p x)
+
+-- the value of the only field of a name
+abbrev pub fields_named : List CVar → List CValue → List ℕ → List CValue
+fields_named (f ∷ fields) (x ∷ xs) y = if bytes_eq f.name y then x ∷ fields_named fields xs y else fields_named fields xs y
+fields_named _ _ y = []
+
+-- a.f
+abbrev pub field : CProgram → CSem → List ℕ → CSem
+field p a y m locals =
+    option_and_then (λ x. option_and_then (λ q. option_and_then (λ s. the_only (fields_named s.fields q.1 y)) (struct_named p q.0)) (as_struct x)) (a m locals)
+
+abbrev pub value_step : CProgram → CExpr-F CSem → CSem
+value_step p (CExpr-F.Var x) = var x
+value_step p (CExpr-F.Lit w n) = lit w n
+value_step p (CExpr-F.Cast w a) = cast w a
+value_step p (CExpr-F.Bin o a b) = bin o a b
+value_step p (CExpr-F.Cmp w o a b) = comparison w o a b
+value_step p (CExpr-F.Build x es) = build p x es
+value_step p (CExpr-F.Field a y) = field p a y
 
 -- What an expression means.
-abbrev pub value_of : CExpr → CSem
-value_of = fold-CExpr CSem value_step
+abbrev pub value_of : CProgram → CExpr → CSem
+value_of p = fold-CExpr CSem (value_step p)
+
+-- ---- statements
 
 -- What a statement does.
 abbrev pub Step : Type 0
 Step = Locals → CState → CRan Locals
+
+-- goes on with the value of an expression
+abbrev pub with_value : {A : Type 0} → CSem → Locals → CState → (CValue → CRan A) → CRan A
+with_value a locals s next = with_some Undefined (a s.memory locals) s next
 
 abbrev pub in_order : List Step → Step
 in_order [] locals s = Goes locals s
@@ -152,119 +182,262 @@ in_order (a ∷ rest) locals s = bind (a locals s) (λ now s. in_order rest now 
 abbrev pub braces : List Step → Step
 braces body locals s = bind (in_order body locals s) (λ now s. Goes (close locals now) s)
 
--- A condition is true where it is not 0 (6.8.4.1p2).
-abbrev pub is_true : CValue → Bool
-is_true (value.Num w zero) = false
-is_true (value.Num w (suc n)) = true
+abbrev pub blank_local : CVar → Local
+blank_local x = record { name = x.name; ty = x.ty; value = None; array = false }
 
--- TYPE NAME; a new variable without a value (6.2.4p6)
-abbrev pub blank : CVar → Step
-blank v locals s = Goes (record { name = v.name; ty = v.ty; value = None } ∷ locals) s
+-- A declaration: the type is one of the program, and the variable is in scope from here on, still without a value, also in
+-- what its value is computed from (6.2.1p7).
+abbrev pub declaring : CProgram → CVar → Locals → CState → (Locals → CRan Locals) → CRan Locals
+declaring p x locals s next = check Undefined (is_known p x.ty) s (next (blank_local x ∷ locals))
 
--- NAME = E; the value, which is to be of the variable's type (6.5.16.1p2)
+-- the newest variable takes its value, which is of its type
+abbrev pub filled : CVar → CValue → Locals → Locals
+filled x a [] = []
+filled x a (l ∷ locals) = record l { value = Some a } ∷ locals
+
+abbrev pub taking : CVar → CValue → Step
+taking x a locals s = check Undefined (has_type s.memory a x.ty) s (Goes (filled x a locals) s)
+
+-- TYPE NAME = E;
+abbrev pub decl : CProgram → CVar → CSem → Step
+decl p x a locals s = declaring p x locals s (λ now. with_value a now s (λ u. taking x u now s))
+
+-- TYPE NAME;
+abbrev pub blank : CProgram → CVar → Step
+blank p x locals s = declaring p x locals s (λ now. Goes now s)
+
+-- NAME = E; where NAME is no array (6.3.2.1p3), and the value is of its type (6.5.16.1p2)
 abbrev pub assign : List ℕ → CSem → Step
-assign x e locals s =
-    with_some Undefined (e locals) s (λ v. with_some Undefined (type_of locals x) s (λ ty. check Undefined (has_type v ty) s (Goes (set x v locals) s)))
+assign x a locals s = with_value a locals s (λ u. with_some Undefined (local_of locals x) s (λ l.
+    check Undefined (not l.array && has_type s.memory u l.ty) s (Goes (set x u locals) s)))
 
--- A test, and what is done where it is true.
+-- a position of a living block, i from where a pointer stands
+abbrev pub reaching : {A : Type 0} → CValue → CValue → CState → (ℕ → ℕ → CBlock → CRan A) → CRan A
+reaching x y s next = with_some Undefined (as_pointer x) s (λ q. with_some Undefined (as_number_of W32 y) s (λ i. with_some Undefined (slice_get s.memory q.0) s (λ b.
+    check Undefined (b.live && nat_lt (q.1 + i) (length b.items)) s (next q.0 (q.1 + i) b))))
+
+-- TYPE NAME = E[E]; the element has a value
+abbrev pub read : CProgram → CVar → CSem → CSem → Step
+read p x a b locals s = declaring p x locals s (λ now. with_value a now s (λ u. with_value b now s (λ w. reaching u w s (λ n i block.
+    with_some Undefined (option_and_then (λ o. o) (slice_get block.items i)) s (λ e. taking x e now (leave (event.Rd n i) s))))))
+
+-- TYPE NAME = TABLE[E];
+abbrev pub tab : CProgram → CVar → List ℕ → CSem → Step
+tab p x y a locals s = declaring p x locals s (λ now. with_value a now s (λ u. with_some Undefined (as_number_of W32 u) s (λ i. with_some Undefined (table_named p y) s (λ q.
+    with_some Undefined (slice_get q.1.nums i) s (λ n. taking x (v.Num q.1.width n) now (leave (event.Tab q.0 i) s))))))
+
+-- E[E] = E; the value is of the type of the elements
+abbrev pub write : CSem → CSem → CSem → Step
+write a b c locals s = with_value a locals s (λ u. with_value b locals s (λ w. with_value c locals s (λ e. reaching u w s (λ n i block.
+    check Undefined (has_type s.memory e block.elem) s (Goes locals (put n i e block (leave (event.Wr n i) s)))))))
+
+abbrev pub divided : Bool → ℕ → ℕ → ℕ
+divided true m n = m / n
+divided false m n = m % n
+
+-- TYPE NAME = (E / E); or with %, where the divisor is not 0 (6.5.5p5)
+abbrev pub div : CProgram → CVar → Bool → CSem → CSem → Step
+div p x quotient a b locals s = declaring p x locals s (λ now.
+    with_value (λ m g. both a b (numbers (λ w i j. where_true (nat_lt 0 j) (v.Num w (divided quotient i j)))) m g) now s (λ u. taking x u now s))
+
+-- What is called: a function, its arguments.
+pub record Called : Type 0 where
+  pub fun : CFun
+  pub values : List CValue
+
+-- what calls mean: the result of the function, where it has one
+abbrev pub Calls : Type 0
+Calls = Called → CState → CRan (Option CValue)
+
+-- whether a function gives something, or nothing
+abbrev pub gives_as : Bool → Option CType → Bool
+gives_as true (Some a) = true
+gives_as false None = true
+gives_as _ _ = false
+
+-- a call of a function that gives something, or nothing: the name, the arguments from left to right, their number and types,
+-- and then a tick (6.5.2.2)
+abbrev pub calling : CProgram → Calls → Bool → List ℕ → List CSem → Locals → CState → (Option CValue → CState → CRan Locals) → CRan Locals
+calling p calls gives f es locals s next = with_some Undefined (function_named p f) s (λ fun. with_some Undefined (all_of es s.memory locals) s (λ xs.
+    check Undefined (fit s.memory fun.params xs && gives_as gives fun.result) s (tick s (λ s. bind (calls (record { fun = fun; values = xs }) s) next))))
+
+-- TYPE NAME = FUN(E, E);
+abbrev pub call : CProgram → Calls → CVar → List ℕ → List CSem → Step
+call p calls x f es locals s = declaring p x locals s (λ now. calling p calls true f es now s (λ o s. with_some Undefined o s (λ u. taking x u now s)))
+
+-- FUN(E, E);
+abbrev pub run : CProgram → Calls → List ℕ → List CSem → Step
+run p calls f es locals s = calling p calls false f es locals s (λ o s. Goes locals s)
+
+-- a test, which leaves an event
+abbrev pub testing : {A : Type 0} → CSem → Locals → CState → (Bool → CState → CRan A) → CRan A
+testing a locals s next = with_value a locals s (λ u. with_some Undefined (as_truth u) s (λ b. next b (leave (event.Br b) s)))
+
 pub record Arm : Type 0 where
   pub test : CSem
   pub body : List Step
 
--- if (E) { .. } else if (E) { .. } else { .. }: the tests in order, each of which leaves an event, up to one that is true
--- (6.8.4.1)
+-- if (E) { .. } else if (E) { .. } else { .. }: the tests in order, up to one that is true (6.8.4.1)
 abbrev pub chain : List Arm → List Step → Step
 chain [] rest locals s = braces rest locals s
-chain (a ∷ arms) rest locals s =
-    with_some Undefined (a.test locals) s (λ v.
-    if is_true v then braces a.body locals (leave (event.Br true) s) else chain arms rest locals (leave (event.Br false) s))
+chain (a ∷ arms) rest locals s = testing a.test locals s (λ b s. if b then braces a.body locals s else chain arms rest locals s)
 
-abbrev pub statement_step : CStatement-F Step Arm → Step
-statement_step (CStatement-F.Blank v) = blank v
-statement_step (CStatement-F.Set x e) = assign x (value_of e)
-statement_step (CStatement-F.Chain arms rest) = chain arms rest
+-- a turn of a loop: its first list and its second one are scopes, one in the other
+abbrev pub turn : List Step → CSem → List Step → Locals → CState → CRan (Turn Locals Locals)
+turn first test body locals s = bind (in_order first locals s) (λ now s. testing test now s (λ b s.
+    if b then bind (braces body now s) (λ now s. Goes (Again (close locals now)) s) else Goes (Over (close locals now)) s))
 
-abbrev pub arm_step : CArm-F Step Arm → Arm
-arm_step a = record { test = value_of a.test; body = a.body }
+-- for (;;) { .. if (E) { .. } else { break; } }
+abbrev pub loops : List Step → CSem → List Step → Step
+loops first test body locals s = loop (turn first test body) locals s
 
-abbrev pub do_arm : CArm → Arm
-do_arm = fold-CArm Step Arm statement_step arm_step
+-- the arrays are the next blocks
+abbrev pub array_block : CArray → CBlock
+array_block a = record { elem = a.ty; live = true; items = replicate a.len None }
 
--- What a statement does, and what several do in order.
-abbrev pub do_one : CStatement → Step
-do_one = fold-CStatement Step Arm statement_step arm_step
+abbrev pub array_slot : CArray → CSlot
+array_slot a = record { ty = a.ty; len = a.len }
 
-abbrev pub exec : List CStatement → Step
-exec body = in_order (map do_one body)
+abbrev pub arrays_over : ℕ → List CArray → Locals → Locals
+arrays_over n [] locals = locals
+arrays_over n (a ∷ arrays) locals = arrays_over (suc n) arrays (record { name = a.name; ty = t.Ptr a.ty; value = Some (v.Ptr n 0); array = true } ∷ locals)
 
--- The function of a name: the first of the program that has it.
-abbrev pub function_named : List CFun → List ℕ → Option CFun
-function_named [] x = None
-function_named (f ∷ funs) x = if bytes_eq f.name x then Some f else function_named funs x
+abbrev pub all_known : CProgram → List CArray → Bool
+all_known p [] = true
+all_known p (a ∷ arrays) = is_known p a.ty && all_known p arrays
 
--- The value of an argument: a truth value is 0 or 1.
-abbrev pub argument_value : Arg → Option CValue
-argument_value (arg.Bool b) = Some (value.Num W8 (if b then 1 else 0))
-argument_value (arg.Num w n) = Some (value.Num w n)
-argument_value (arg.Buf w ns) = None
+abbrev pub enter_block : List CArray → CState → CState
+enter_block arrays s = leave (event.Enter (map array_slot arrays)) (record s { memory = s.memory ++ map array_block arrays })
 
-abbrev pub of_type : CType → CValue → Option CValue
-of_type ty v = if has_type v ty then Some v else None
+abbrev pub leave_block : ℕ → CState → CState
+leave_block n s = leave event.Leave (record s { memory = close_from n s.memory })
 
--- The value of an argument that fits a parameter's type.
-abbrev pub passed : Arg → CType → Option CValue
-passed a ty = option_and_then (of_type ty) (argument_value a)
+-- { arrays, statements }
+abbrev pub block : CProgram → List CArray → List Step → Step
+block p arrays body locals s = check Undefined (all_known p arrays) s
+    (bind (in_order body (arrays_over (length s.memory) arrays locals) (enter_block arrays s)) (λ now late. Goes (close locals now) (leave_block (length s.memory) late)))
 
--- The parameters over the variables in scope, the last one the newest, where the arguments fit them one by one.
-abbrev pub with_arguments : List CVar → List Arg → Locals → Option Locals
-with_arguments [] [] locals = Some locals
-with_arguments [] (a ∷ args) locals = None
-with_arguments (p ∷ params) [] locals = None
-with_arguments (p ∷ params) (a ∷ args) locals =
-    option_and_then (λ v. with_arguments params args (record { name = p.name; ty = p.ty; value = Some v } ∷ locals)) (passed a p.ty)
+abbrev pub statement_step : CProgram → Calls → CStatement-F Step Arm → Step
+statement_step p calls (CStatement-F.Decl x a) = decl p x (value_of p a)
+statement_step p calls (CStatement-F.Blank x) = blank p x
+statement_step p calls (CStatement-F.Set x a) = assign x (value_of p a)
+statement_step p calls (CStatement-F.Read x a b) = read p x (value_of p a) (value_of p b)
+statement_step p calls (CStatement-F.Tab x y a) = tab p x y (value_of p a)
+statement_step p calls (CStatement-F.Write a b c) = write (value_of p a) (value_of p b) (value_of p c)
+statement_step p calls (CStatement-F.Div x quotient a b) = div p x quotient (value_of p a) (value_of p b)
+statement_step p calls (CStatement-F.Call x f es) = call p calls x f (map (value_of p) es)
+statement_step p calls (CStatement-F.Run f es) = run p calls f (map (value_of p) es)
+statement_step p calls (CStatement-F.Chain arms rest) = chain arms rest
+statement_step p calls (CStatement-F.Loop first test body) = loops first (value_of p test) body
+statement_step p calls (CStatement-F.Block arrays body) = block p arrays body
 
--- What a run begins with: a function and its parameters.
-pub record Start : Type 0 where
-  pub fun : CFun
-  pub locals : Locals
+abbrev pub arm_step : CProgram → CArm-F Step Arm → Arm
+arm_step p a = record { test = value_of p a.test; body = a.body }
 
-abbrev pub start_of : List Arg → CFun → Option Start
-start_of args f = option_map (λ locals. record { fun = f; locals = locals }) (with_arguments f.params args [])
+-- What a statement does where calls mean this, and what several do in order.
+abbrev pub do_one : CProgram → Calls → CStatement → Step
+do_one p calls = fold-CStatement Step Arm (statement_step p calls) (arm_step p)
 
--- The start of a function's run: the program has a function of that name, and the arguments fit it.
-abbrev pub start : CProgram → List ℕ → List Arg → Option Start
-start program name args = option_and_then (start_of args) (function_named program.funs name)
+abbrev pub exec : CProgram → Calls → List CStatement → Step
+exec p calls body = in_order (map (do_one p calls) body)
 
--- return E; the value, which is to be of the result's type. A function without a result returns nothing.
-abbrev pub answered : Option CType → Option CExpr → Locals → CState → CRan (Option CValue)
-answered None None locals s = Goes None s
-answered (Some ty) (Some e) locals s =
-    with_some Undefined (value_of e locals) s (λ v. check Undefined (has_type v ty) s (Goes (Some v) s))
-answered None (Some e) locals s = ends Undefined s
-answered (Some ty) None locals s = ends Undefined s
+-- ---- functions
+
+-- return E; the value, which is of the result's type. A function without a result returns nothing.
+abbrev pub answered : CProgram → Option CType → Option CExpr → Locals → CState → CRan (Option CValue)
+answered p None None locals s = Goes None s
+answered p (Some ty) (Some e) locals s = with_value (value_of p e) locals s (λ u. check Undefined (has_type s.memory u ty) s (Goes (Some u) s))
+answered p _ _ locals s = ends Undefined s
+
+-- the parameters with these values, the last one the newest
+abbrev pub params_over : List CVar → List CValue → Locals → Locals
+params_over (x ∷ params) (u ∷ us) locals = params_over params us (record { name = x.name; ty = x.ty; value = Some u; array = false } ∷ locals)
+params_over _ _ locals = locals
 
 -- a body, and then what it returns
-abbrev pub body_of : CFun → Locals → CState → CRan (Option CValue)
-body_of f locals s = bind (exec f.body locals s) (λ now s. answered f.result f.answer now s)
+abbrev pub body_of : CProgram → Calls → Calls
+body_of p calls c s = bind (exec p calls c.fun.body (params_over c.fun.params c.values []) s) (λ now s. answered p c.fun.result c.fun.answer now s)
 
-abbrev pub scalar : CValue → ℕ
-scalar (value.Num w n) = n
+-- what calls mean with so many levels left
+abbrev pub enter : CProgram → ℕ → Calls
+enter p = within (body_of p)
 
--- A run that went to its end is done with its result. No argument is a pointer.
-abbrev pub done : Option CValue → CState → Outcome
-done v s = outcome.Done (option_map scalar v) []
+-- ---- runs
 
--- The steps of a function's run.
-abbrev pub c_steps : CProgram → List ℕ → Arguments → Bound → CRan (Option CValue)
-c_steps program name args bound =
-    let s : CState = record { ticks = bound.ticks; memory = []; events = [] } in
-    with_some Undefined (start program name args.items) s (λ b. body_of b.fun b.locals s)
+-- A function that may be run: one that gives a number or nothing.
+abbrev pub is_scalar_in : CType-F CType → Bool
+is_scalar_in CType-F.U8 = true
+is_scalar_in CType-F.U32 = true
+is_scalar_in CType-F.U64 = true
+is_scalar_in _ = false
 
--- What a run comes to.
-abbrev pub run_of : CRan (Option CValue) → CRun
-run_of r = record { outcome = outcome_of done r; events = events_of r }
+abbrev pub gives_scalar : Option CType → Bool
+gives_scalar None = true
+gives_scalar (Some a) = is_scalar_in (out-CType a)
+
+abbrev pub first_named : List CFun → List ℕ → Option CFun
+first_named [] x = None
+first_named (f ∷ funs) x = if bytes_eq f.name x && gives_scalar f.result then Some f else first_named funs x
+
+-- What arguments come to: the values of the parameters, the last one first, the blocks, and their events, the newest first.
+pub record Passed : Type 0 where
+  pub values : List CValue
+  pub memory : List CBlock
+  pub events : List CEvent
+
+abbrev pub pass : Passed → Arg → Passed
+pass p (arg.Bool b) = record p { values = v.Num W8 (if b then 1 else 0) ∷ p.values }
+pass p (arg.Num w n) = record p { values = v.Num w n ∷ p.values }
+pass p (arg.Buf w nums) = record {
+  values = v.Ptr (length p.memory) 0 ∷ p.values;
+  memory = p.memory ++ record { elem = width_type w; live = true; items = map (λ n. Some (v.Num w n)) nums } ∷ [];
+  events = event.Arg (length p.memory) (width_type w) (length nums) ∷ p.events;
+}
+
+abbrev pub pass_all : Passed → List Arg → Passed
+pass_all p [] = p
+pass_all p (a ∷ args) = pass_all (pass p a) args
+
+abbrev pub passed : List Arg → Passed
+passed args = pass_all (record { values = []; memory = []; events = [] }) args
+
+-- The arguments fit a function: each has the type of its parameter, truth values that of 8 bits, and buffers are pointers.
+abbrev pub passes_to : CFun → Passed → Bool
+passes_to f p = fit p.memory f.params (reverse p.values)
+
+-- The function that a run is of, where the arguments fit it.
+abbrev pub start : CProgram → List ℕ → List Arg → Option CFun
+start p x args = option_and_then (λ f. where_true (passes_to f (passed args)) f) (first_named p.funs x)
+
+-- The arguments fit a function of the program.
+abbrev pub ArgumentsFit : CProgram → List ℕ → Arguments → Type 0
+ArgumentsFit p x args = IsSome (start p x args.items)
+
+abbrev pub scalar_of : CValue → Option ℕ
+scalar_of x = option_map (λ p. p.1) (as_number x)
+
+-- the numbers of a block
+abbrev pub number_or_zero : Option CValue → ℕ
+number_or_zero None = 0
+number_or_zero (Some x) = unwrap_or (scalar_of x) 0
+
+abbrev pub contents : CBlock → List ℕ
+contents b = map number_or_zero b.items
+
+-- A run that went to its end is done with its result, and the first so many blocks, which are the arguments'.
+abbrev pub done : ℕ → Option CValue → CState → Outcome
+done buffers x s = outcome.Done (option_and_then scalar_of x) (map contents (take buffers s.memory))
+
+abbrev pub run_from : CProgram → Bound → Passed → CFun → CRun
+run_from p bound q f =
+    let r : CRan (Option CValue) = body_of p (enter p bound.depth) (record { fun = f; values = reverse q.values }) (record { ticks = bound.ticks; memory = q.memory; events = q.events }) in
+    record { outcome = outcome_of (done (length q.memory)) r; events = events_of r }
+
+abbrev pub run_started : CProgram → Bound → Passed → Option CFun → CRun
+run_started p bound q (Some f) = run_from p bound q f
+run_started p bound q None = record { outcome = outcome.Undefined; events = [] }
 
 -- The run of a function on arguments under a bound. Where there is no such function, or the arguments do not fit it, the
 -- run is Undefined and has no events.
 abbrev pub c_run : CProgram → List ℕ → Arguments → Bound → CRun
-c_run program name args bound = run_of (c_steps program name args bound)
+c_run p x args bound = run_started p bound (passed args.items) (start p x args.items)

@@ -1,5 +1,5 @@
 -- What programs a text spells.
-use Rattle.std.specs.Prelude.{◌≡◌, ℕ, List, [], ◌∷◌, ◌++◌}
+use Rattle.std.specs.Prelude.{◌≡◌, ◌↔◌, ℕ, List, [], ◌∷◌, ◌++◌}
 use Rattle.krml_ctree.specs.declared.tree.CProgram.{CProgram}
 use Rattle.krml_ctree.specs.Shape.{KeepsShapes}
 use Rattle.krml_ctree.specs.Text.{include_line, tokens_of}
@@ -17,3 +17,7 @@ pub record SpellsProgram (text : List ℕ) (p : CProgram) : Type 0 where
   pub ends_line : EndsLine behind
   pub has : tokens behind ≡ tokens_of p
   pub keeps : KeepsShapes p
+
+-- A text spells a program, and no other.
+abbrev pub SpelledAlone : List ℕ → CProgram → Type 0
+SpelledAlone text p = (q : CProgram) → SpellsProgram text q ↔ (q ≡ p)

@@ -1,17 +1,12 @@
-use crate::tree::CType;
-use krml_trace::{Name, Width};
+use krml_trace::{Name, Seq, Width};
 
 /// A value.
-#[derive(Clone, Copy, Debug, PartialEq, Eq)]
+#[derive(Drop)]
 pub enum CValue {
     /// A number, which fits its width.
     Num(Width, u64),
-}
-
-/// A parameter or a variable in scope. It may have no value yet.
-#[derive(Drop)]
-pub struct CLocal {
-    pub name: Name,
-    pub ty: CType,
-    pub value: Option<CValue>,
+    /// A struct: its name, and the values of its fields.
+    Struct(Name, Seq<CValue>),
+    /// A pointer: the number of a block, and a position in it.
+    Ptr(u64, u32),
 }
