@@ -1,0 +1,143 @@
+//! Statements.
+
+ghost use Rattle.std.specs.Prelude.{◌≡◌, ◌+◌, ◌++◌, OnOk, map};
+ghost use Rattle.std.specs.List.{flat_map};
+ghost use Rattle.krml_ctree.specs.Text.{as_text, ended, array, arm, ifs, otherwise, statement, statements};
+ghost use Rattle.krml_cprint.specs.Printing.{arm_of, arm_words, test_line, loop_end};
+
+use crate::expression::expr;
+use crate::layout::{inner_level, line, margin};
+use crate::simple::{
+    blank, declaration, division, read, read_table, result_of_call, run, set, write,
+};
+use crate::types::array;
+use krml_ctree::{CArm, CArray, CExpr, CStatement};
+use krml_trace::NoMemory;
+
+/// Writes what stands before a test: the first has no branch before it.
+fn keywords(out: &mut Vec<u8>, before: usize) -> Result<(), NoMemory>
+    ensures { OnOk result (out.new.items ≡ out.old.items ++ arm_words before) }
+{
+    if before > 0 {
+        out.extend_from_slice(b"} else ")?;
+    }
+    out.extend_from_slice(b"if ")
+}
+
+/// Writes the line of a test.
+fn test_line(out: &mut Vec<u8>, before: usize, test: &CExpr, level: u32) -> Result<(), NoMemory>
+    ensures { OnOk result (out.new.items ≡ out.old.items ++ test_line before test.now level) }
+{
+    margin(out, level)?;
+    keywords(out, before)?;
+    out.extend_from_slice(b"(")?;
+    expr(out, test)?;
+    out.extend_from_slice(b") {\n")
+}
+
+/// Writes what stands behind the second list of a loop.
+fn loop_end(out: &mut Vec<u8>, level: u32) -> Result<(), NoMemory>
+    ensures { OnOk result (out.new.items ≡ out.old.items ++ loop_end level) }
+{
+    let inner = inner_level(level)?;
+    line(out, b"} else {", inner)?;
+    line(out, b"break;", inner_level(inner)?)?;
+    line(out, b"}", inner)?;
+    line(out, b"}", level)
+}
+
+/// Writes arrays, each on a line.
+fn arrays(out: &mut Vec<u8>, all: &[CArray], level: u32) -> Result<(), NoMemory>
+    ensures { OnOk result (out.new.items ≡ out.old.items ++ flat_map (λ a. ended as_text level (array as_text a)) all.now) }
+{
+    for a in all {
+        margin(out, level)?;
+        array(out, a)?;
+        out.extend_from_slice(b";\n")?;
+    }
+    Ok(())
+}
+
+/// Writes a statement.
+#[cycle(statement)]
+fn statement(out: &mut Vec<u8>, s: &CStatement, level: u32) -> Result<(), NoMemory>
+    ensures { OnOk result (out.new.items ≡ out.old.items ++ statement as_text s.now level) }
+{
+    match s {
+        CStatement::Decl(v, e) => declaration(out, v, e, level),
+        CStatement::Blank(v) => blank(out, v, level),
+        CStatement::Set(name, e) => set(out, name, e, level),
+        CStatement::Read(v, a, i) => read(out, v, a, i, level),
+        CStatement::Tab(v, name, i) => read_table(out, v, name, i, level),
+        CStatement::Write(a, i, e) => write(out, a, i, e, level),
+        CStatement::Div(v, quotient, a, b) => division(out, v, *quotient, a, b, level),
+        CStatement::Call(v, fun, args) => result_of_call(out, v, fun, args.as_slice(), level),
+        CStatement::Run(fun, args) => run(out, fun, args.as_slice(), level),
+        CStatement::Chain(arms, rest) => {
+            ifs(out, arms.as_slice(), level)?;
+            otherwise(out, rest.as_slice(), level)?;
+            line(out, b"}", level)?;
+            Ok(())
+        }
+        CStatement::Loop(first, test, body) => {
+            let inner = inner_level(level)?;
+            line(out, b"for (;;) {", level)?;
+            block(out, first.as_slice(), inner)?;
+            test_line(out, 0, test, inner)?;
+            block(out, body.as_slice(), inner_level(inner)?)?;
+            loop_end(out, level)?;
+            Ok(())
+        }
+        CStatement::Block(locals, body) => {
+            let inner = inner_level(level)?;
+            line(out, b"{", level)?;
+            arrays(out, locals.as_slice(), inner)?;
+            block(out, body.as_slice(), inner)?;
+            line(out, b"}", level)?;
+            Ok(())
+        }
+    }
+}
+
+/// Writes statements.
+#[cycle(statement)]
+pub(crate) fn block(out: &mut Vec<u8>, body: &[CStatement], level: u32) -> Result<(), NoMemory>
+    ensures { OnOk result (out.new.items ≡ out.old.items ++ statements as_text body.now level) }
+{
+    for s in body {
+        statement(out, s, level)?;
+    }
+    Ok(())
+}
+
+/// Writes the tests of a chain, each with what is done where it is true.
+#[cycle(statement)]
+fn ifs(out: &mut Vec<u8>, arms: &[CArm], level: u32) -> Result<(), NoMemory>
+    ensures { OnOk result (out.new.items ≡ out.old.items ++ ifs as_text (map arm_of arms.now) level) }
+{
+    for (i, a) in arms.iter().enumerate() {
+        arm(out, i, a, level)?;
+    }
+    Ok(())
+}
+
+/// Writes a test and what is done where it is true.
+#[cycle(statement)]
+fn arm(out: &mut Vec<u8>, before: usize, a: &CArm, level: u32) -> Result<(), NoMemory>
+    ensures { OnOk result (out.new.items ≡ out.old.items ++ arm as_text (arm_words before) (arm_of a.now) level) }
+{
+    test_line(out, before, &a.test, level)?;
+    block(out, a.body.as_slice(), inner_level(level)?)
+}
+
+/// Writes what is done where no test is true.
+#[cycle(statement)]
+fn otherwise(out: &mut Vec<u8>, rest: &[CStatement], level: u32) -> Result<(), NoMemory>
+    ensures { OnOk result (out.new.items ≡ out.old.items ++ otherwise as_text (map (statement as_text) rest.now) level) }
+{
+    if rest.is_empty() {
+        return Ok(());
+    }
+    line(out, b"} else {", level)?;
+    block(out, rest, inner_level(level)?)
+}
