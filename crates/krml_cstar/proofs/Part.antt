@@ -1,0 +1,195 @@
+-- The part of the language that is built: its types, and what its definitions keep.
+use Rattle.std.proofs.Common.{◌≡◌, ℕ, suc, Bool, true, false, not, ◌&&◌, if◌then◌else◌, List, [], ◌∷◌, map, length, Some, refl, sym, ap, ◌∙◌, subst, arith}
+use Rattle.std.specs.List.{AllByRecursion, IsDistinct}
+use Rattle.std.specs.Str.{bytes_eq}
+use Rattle.std.proofs.lemmas.Bool.{eqb-true, and_parts}
+use Rattle.std.proofs.lemmas.Slice.Eq.{bytes_eq-Decides}
+use Rattle.krml_syntax.specs.declared.tree.IntTy.{IntTy}
+use Rattle.krml_syntax.specs.declared.tree.Ty.{Ty}
+use Rattle.krml_syntax.specs.declared.tree.Ty.TheVariants as t
+use Rattle.krml_syntax.specs.declared.tree.Field.{Field}
+use Rattle.krml_syntax.specs.declared.tree.Con.{Con}
+use Rattle.krml_syntax.specs.declared.tree.Expr.{Expr}
+use Rattle.krml_syntax.specs.declared.tree.Def.{Def}
+use Rattle.krml_syntax.specs.declared.tree.Def.TheVariants as d
+use Rattle.krml_ast.specs.Names.{Struct, Sum, Signature, type_named, table_named, fun_named}
+use Rattle.krml_ast.specs.IsType.{public, erased, type_at, IsValue, IsType}
+use Rattle.krml_ast.specs.Typing.{at, fields_at}
+use Rattle.krml_ast.specs.WellTyped.{names_of, WellTyped, AreWellTyped}
+use Rattle.krml_meaning.specs.Meaning as src
+use Rattle.krml_meaning.proofs.Lists.{same_some, no_some, each_so}
+use Rattle.krml_meaning.proofs.Facts.{same_struct}
+use Rattle.krml_meaning.proofs.Types.{erased_bool, erased_unit, erased_int, erased_named, at_bool, at_unit, at_int, at_named}
+use Rattle.krml_meaning.proofs.Flat.{by_form}
+use Rattle.krml_meaning.proofs.Files.{each_def}
+use Rattle.krml_cstar.specs.Built.{is_public, is_empty, level_ty_built, is_ty_built, are_fields_built, is_expr_built, is_built, AreBuilt}
+
+-- ---- types
+
+pub nothing_listed : {A : Type 0} (xs : List A) → is_empty xs ≡ true → xs ≡ []
+nothing_listed [] e = refl
+nothing_listed (x ∷ xs) e = let n : suc (length xs) ≡ 0 = eqb-true (suc (length xs)) 0 e in absurd (omega (arith, n))
+
+-- a public integer type is without its label what it is
+pub public_same : (i : IntTy) → is_public i ≡ true → public i ≡ i
+public_same i e = go i.secret refl e
+  where
+    go : (b : Bool) → i.secret ≡ b → not b ≡ true → public i ≡ i
+    go false q h = ap (λ s. record { width = i.width; secret = s }) (sym q)
+    go true q h = absurd (cc)
+
+-- a type that is built is of one of these forms
+pub built_form : (P : Ty → Type 0) → P t.Bool → P t.Unit → ((i : IntTy) → is_public i ≡ true → P (t.Int i)) → ((x : List ℕ) → P (t.Named x []))
+    → (a : Ty) → is_ty_built a ≡ true → P a
+built_form P b u i n = by_form (λ a. is_ty_built a ≡ true → P a) (λ e. b) (λ e. u) (λ j e. i j (sym (ap level_ty_built (t.outs-Int j)) ∙ e))
+    (λ a e. absurd (off (sym (ap level_ty_built (t.outs-Buf a)) ∙ e))) (λ x e. absurd (off (sym (ap level_ty_built (t.outs-Var x)) ∙ e)))
+    (λ x args e. subst (λ z. P (t.Named x z)) (sym (nothing_listed args (sym (ap level_ty_built (t.outs-Named x args)) ∙ e))) (n x))
+  where
+    off : false ≡ true → ⊥
+    off e = cc
+
+pub erased_built : (a : Ty) → is_ty_built a ≡ true → erased a ≡ a
+erased_built = built_form (λ a. erased a ≡ a) erased_bool erased_unit (λ i h. erased_int i ∙ ap (λ z. t.Int z) (public_same i h)) (λ x. erased_named x [])
+
+pub type_at_built : (vars : List (List ℕ)) (args : List Ty) (a : Ty) → is_ty_built a ≡ true → type_at vars args a ≡ a
+type_at_built vars args = built_form (λ a. type_at vars args a ≡ a) (at_bool vars args) (at_unit vars args) (λ i h. at_int vars args i) (λ x. at_named vars args x [])
+
+-- whatever the type variables
+pub at_built : (vars : List (List ℕ)) (args : List Ty) (a : Ty) → is_ty_built a ≡ true → at vars args a ≡ a
+at_built vars args a e = ap erased (type_at_built vars args a e) ∙ erased_built a e
+
+-- the types of fields or parameters
+abbrev pub types_of : List Field → List Ty
+types_of fields = map (λ f. f.ty) fields
+
+pub fields_at_built : (vars : List (List ℕ)) (args : List Ty) (fields : List Field) → are_fields_built fields ≡ true → fields_at vars args fields ≡ types_of fields
+fields_at_built vars args [] e = refl
+fields_at_built vars args (f ∷ fields) e =
+    let both = and_parts (is_ty_built f.ty) (are_fields_built fields) e in
+    ap (λ z. z ∷ fields_at vars args fields) (at_built vars args f.ty both.0) ∙ ap (λ z. f.ty ∷ z) (fields_at_built vars args fields both.1)
+
+pub fields_erased_built : (fields : List Field) → are_fields_built fields ≡ true → map (λ f. erased f.ty) fields ≡ types_of fields
+fields_erased_built [] e = refl
+fields_erased_built (f ∷ fields) e =
+    let both = and_parts (is_ty_built f.ty) (are_fields_built fields) e in
+    ap (λ z. z ∷ map (λ (g : Field). erased g.ty) fields) (erased_built f.ty both.0) ∙ ap (λ z. f.ty ∷ z) (fields_erased_built fields both.1)
+
+-- ---- what holds of each definition holds of the one that a name means
+
+module _ (P : Def → Type 0) where
+  pub at_struct : (defs : List Def) (x : List ℕ) (vars : List (List ℕ)) (fields : List Field) → AllByRecursion P defs → type_named defs x ≡ Some (Struct vars fields) → P (d.Struct x vars fields)
+  at_struct [] x vars fields h e = absurd (no_some (Struct vars fields) e)
+  at_struct (d.Struct name vs fs ∷ defs) x vars fields h e = go (bytes_eq name x) refl e (at_struct defs x vars fields h.1)
+    where
+      go : (b : Bool) → bytes_eq name x ≡ b → (if b then Some (Struct vs fs) else type_named defs x) ≡ Some (Struct vars fields)
+          → (type_named defs x ≡ Some (Struct vars fields) → P (d.Struct x vars fields)) → P (d.Struct x vars fields)
+      go true q e' later =
+          let same = same_struct vs vars fs fields (same_some (Struct vs fs) (Struct vars fields) e') in
+          subst (λ z. P (d.Struct x vars z)) same.1 (subst (λ z. P (d.Struct x z fs)) same.0 (subst (λ z. P (d.Struct z vs fs)) ((bytes_eq-Decides name x).0 q) h.0))
+      go false q e' later = later e'
+  at_struct (d.Sum name vs cons ∷ defs) x vars fields h e = go (bytes_eq name x) e (at_struct defs x vars fields h.1)
+    where
+      go : (b : Bool) → (if b then Some (Sum vs cons) else type_named defs x) ≡ Some (Struct vars fields)
+          → (type_named defs x ≡ Some (Struct vars fields) → P (d.Struct x vars fields)) → P (d.Struct x vars fields)
+      go true e' later = absurd (cc)
+      go false e' later = later e'
+  at_struct (d.Table name ty nums ∷ defs) x vars fields h e = at_struct defs x vars fields h.1 e
+  at_struct (d.Fun name vs params result body ∷ defs) x vars fields h e = at_struct defs x vars fields h.1 e
+  at_struct (d.Entry name ∷ defs) x vars fields h e = at_struct defs x vars fields h.1 e
+
+  pub at_function : (defs : List Def) (x : List ℕ) (f : Signature) (fun : src.Function) → AllByRecursion P defs → fun_named defs x ≡ Some f → src.function_named defs x ≡ Some fun
+      → P (d.Fun x f.vars f.params f.result fun.body)
+  at_function [] x f fun h e q = absurd (no_some f e)
+  at_function (d.Fun name vs params result body ∷ defs) x f fun h e q = go (bytes_eq name x) refl e q (at_function defs x f fun h.1)
+    where
+      go : (b : Bool) → bytes_eq name x ≡ b → (if b then Some (record { vars = vs; params = params; result = result }) else fun_named defs x) ≡ Some f
+          → (if b then Some (record { tvars = vs; params = params; body = body }) else src.function_named defs x) ≡ Some fun
+          → (fun_named defs x ≡ Some f → src.function_named defs x ≡ Some fun → P (d.Fun x f.vars f.params f.result fun.body)) → P (d.Fun x f.vars f.params f.result fun.body)
+      go true is e' q' later =
+          let same : record { vars = vs; params = params; result = result } ≡ f = same_some (record { vars = vs; params = params; result = result }) f e' in
+          let alike : record { tvars = vs; params = params; body = body } ≡ fun = same_some (record { tvars = vs; params = params; body = body }) fun q' in
+          subst (λ (z : src.Function). P (d.Fun x f.vars f.params f.result z.body)) alike (subst (λ (z : Signature). P (d.Fun x z.vars z.params z.result body)) same
+          (subst (λ z. P (d.Fun z vs params result body)) ((bytes_eq-Decides name x).0 is) h.0))
+      go false is e' q' later = later e' q'
+  at_function (d.Struct name vs fields ∷ defs) x f fun h e q = at_function defs x f fun h.1 e q
+  at_function (d.Sum name vs cons ∷ defs) x f fun h e q = at_function defs x f fun h.1 e q
+  at_function (d.Table name ty nums ∷ defs) x f fun h e q = at_function defs x f fun h.1 e q
+  at_function (d.Entry name ∷ defs) x f fun h e q = at_function defs x f fun h.1 e q
+
+  -- a table, with its numbers
+  pub at_table : (defs : List Def) (x : List ℕ) (i : IntTy) → AllByRecursion P defs → table_named defs x ≡ Some i → (nums : List ℕ) × P (d.Table x i nums)
+  at_table [] x i h e = absurd (no_some i e)
+  at_table (d.Table name ty nums ∷ defs) x i h e = go (bytes_eq name x) refl e (at_table defs x i h.1)
+    where
+      go : (b : Bool) → bytes_eq name x ≡ b → (if b then Some ty else table_named defs x) ≡ Some i → (table_named defs x ≡ Some i → (nums : List ℕ) × P (d.Table x i nums))
+          → (nums : List ℕ) × P (d.Table x i nums)
+      go true q e' later = (nums, subst (λ z. P (d.Table x z nums)) (same_some ty i e') (subst (λ z. P (d.Table z ty nums)) ((bytes_eq-Decides name x).0 q) h.0))
+      go false q e' later = later e'
+  at_table (d.Struct name vs fields ∷ defs) x i h e = at_table defs x i h.1 e
+  at_table (d.Sum name vs cons ∷ defs) x i h e = at_table defs x i h.1 e
+  at_table (d.Fun name vs params result body ∷ defs) x i h e = at_table defs x i h.1 e
+  at_table (d.Entry name ∷ defs) x i h e = at_table defs x i h.1 e
+
+-- ---- the definitions of a file that is built
+
+-- there is no sum
+pub no_sum : (defs : List Def) → AreBuilt defs → (x : List ℕ) (vars : List (List ℕ)) (cons : List Con) → type_named defs x ≡ Some (Sum vars cons) → ⊥
+no_sum [] h x vars cons e = no_some (Sum vars cons) e
+no_sum (d.Struct name vs fs ∷ defs) h x vars cons e = go (bytes_eq name x) e (no_sum defs h.1 x vars cons)
+  where
+    go : (b : Bool) → (if b then Some (Struct vs fs) else type_named defs x) ≡ Some (Sum vars cons) → (type_named defs x ≡ Some (Sum vars cons) → ⊥) → ⊥
+    go true e' later = cc
+    go false e' later = later e'
+no_sum (d.Sum name vs cs ∷ defs) h x vars cons e = let h0 : false ≡ true = h.0 in cc
+no_sum (d.Table name ty nums ∷ defs) h x vars cons e = no_sum defs h.1 x vars cons e
+no_sum (d.Fun name vs params result body ∷ defs) h x vars cons e = no_sum defs h.1 x vars cons e
+no_sum (d.Entry name ∷ defs) h x vars cons e = no_sum defs h.1 x vars cons e
+
+-- a struct has no type variables, and its fields are values of types that are built, with names that differ
+pub record StructBuilt (vars : List (List ℕ)) (fields : List Field) : Type 0 where
+  pub none : vars ≡ []
+  pub types : are_fields_built fields ≡ true
+  pub values : AllByRecursion (λ f. IsValue f.ty) fields
+  pub distinct : IsDistinct bytes_eq (names_of fields)
+
+-- a function has no type variables, and its parameters are values of types that are built, with names that differ; so is its
+-- result, or it is unit; and its body is built
+pub record FunctionBuilt (f : Signature) (a : Expr) : Type 0 where
+  pub none : f.vars ≡ []
+  pub types : are_fields_built f.params ≡ true
+  pub values : AllByRecursion (λ p. IsValue p.ty) f.params
+  pub distinct : IsDistinct bytes_eq (names_of f.params)
+  pub result : is_ty_built f.result ≡ true
+  pub body : is_expr_built a ≡ true
+
+abbrev ValuesIn : Def → Type 0
+ValuesIn (d.Struct x vars fields) = AllByRecursion (λ f. IsValue f.ty) fields × IsDistinct bytes_eq (names_of fields)
+ValuesIn (d.Fun x vars params result body) = AllByRecursion (λ p. IsValue p.ty) params × IsDistinct bytes_eq (names_of params)
+ValuesIn _ = Unit {0}
+
+values_in : (defs before : List Def) (def : Def) → WellTyped defs before def → ValuesIn def
+values_in defs before def (WellTyped.struct {vars = vars} {fields = fields} new vs fs ok) = (each_so (λ f. IsType before vars f.ty × IsValue f.ty) (λ f. IsValue f.ty) fields (λ f k. k.1) ok, fs)
+values_in defs before def (WellTyped.fun {vars = vars} {params = params} new vs ps ok r res b) = (each_so (λ p. IsType defs vars p.ty × IsValue p.ty) (λ p. IsValue p.ty) params (λ p k. k.1) ok, ps)
+values_in defs before def (WellTyped.sum new cs vs ok) = tt
+values_in defs before def (WellTyped.table new ok) = tt
+values_in defs before def (WellTyped.entry new is none outside answer) = tt
+
+module _ (defs : List Def) (typed : AreWellTyped defs) (built : AreBuilt defs) where
+  pub struct_built : (x : List ℕ) (vars : List (List ℕ)) (fields : List Field) → type_named defs x ≡ Some (Struct vars fields) → StructBuilt vars fields
+  struct_built x vars fields e =
+      let b : (is_empty vars && are_fields_built fields) ≡ true = at_struct (λ def. is_built def ≡ true) defs x vars fields built e in
+      let both = and_parts (is_empty vars) (are_fields_built fields) b in
+      let v = at_struct ValuesIn defs x vars fields (each_def defs typed ValuesIn (values_in defs)) e in
+      record { none = nothing_listed vars both.0; types = both.1; values = v.0; distinct = v.1 }
+
+  pub function_built : (x : List ℕ) (f : Signature) (fun : src.Function) → fun_named defs x ≡ Some f → src.function_named defs x ≡ Some fun → FunctionBuilt f fun.body
+  function_built x f fun e q =
+      let b : (is_empty f.vars && are_fields_built f.params && is_ty_built f.result && is_expr_built fun.body) ≡ true = at_function (λ def. is_built def ≡ true) defs x f fun built e q in
+      let one = and_parts (is_empty f.vars && are_fields_built f.params && is_ty_built f.result) (is_expr_built fun.body) b in
+      let two = and_parts (is_empty f.vars && are_fields_built f.params) (is_ty_built f.result) one.0 in
+      let three = and_parts (is_empty f.vars) (are_fields_built f.params) two.0 in
+      let v = at_function ValuesIn defs x f fun (each_def defs typed ValuesIn (values_in defs)) e q in
+      record { none = nothing_listed f.vars three.0; types = three.1; values = v.0; distinct = v.1; result = two.1; body = one.1 }
+
+  pub table_built : (x : List ℕ) (i : IntTy) → table_named defs x ≡ Some i → is_public i ≡ true
+  table_built x i e = let k = at_table (λ def. is_built def ≡ true) defs x i built e in k.1
