@@ -13,9 +13,9 @@ use Rattle.krml_cli.specs.declared.refusal.FileRefusal.{FileRefusal}
 use Rattle.krml_cli.specs.declared.refusal.FileRefusal.TheVariants.{Read}
 use Rattle.krml_cli.specs.declared.stop.Stop.{Stop}
 use Rattle.krml_cli.specs.declared.stop.Stop.TheVariants as stop
-use Rattle.krml_cli.specs.Ends.{Asks, IsUsage, Serves, ServesNone, Makes, IsOutput, Taken, max_text, AppendsPrefix, Call, Stops, Ends, Compiled, Accepted, Refused, RefusedFor, FailedNotes, PrefixOnly, IsLine, IsNoted, IsPlain, IsCut, line_of, status_of}
-use Rattle.krml_cli.specs.Refusal.{Refuses}
-use Rattle.krml_cli.proofs.Refusals.{OneAnswer, asks_one, asks_is_no_usage, serves_none, one_refusal, makes_serves, serves_short}
+use Rattle.krml_cli.specs.Ends.{Asks, IsUsage, AcceptsNone, Makes, IsOutput, Taken, max_text, AppendsPrefix, Call, Stops, Ends, Compiled, Accepted, Refused, RefusedFor, FailedNotes, PrefixOnly, IsLine, IsNoted, IsPlain, IsCut, line_of, status_of}
+use Rattle.krml_cli.specs.Refusal.{Accepts, Refuses}
+use Rattle.krml_cli.proofs.Refusals.{OneAnswer, asks_one, asks_is_no_usage, accepts_none, one_refusal, makes_accepted, accepted_short}
 
 -- what an end tells stays as it was
 keeps : (a b : Option (List ℕ)) → b ≡ a → Keeps a b
@@ -82,12 +82,12 @@ module _ (one : OneAnswer) where
     taken_is : length input ≤ max_text → taken ≡ input
     taken_is short = let some : length taken ≤ length input = taken_short left left' input taken e t in all_taken left left' input taken e t (omega (arith, short, some))
 
-    -- so what serves all that was left serves what was taken, and the other way round
-    serves_taken : (command : Command) (file : SourceFile) → Serves command input file → Serves command taken file
-    serves_taken command file s = subst (λ xs. Serves command xs file) (sym (taken_is (serves_short command input file s))) s
+    -- so where all that was left is accepted, what was taken is, and the other way round
+    taken_accepted : (file : SourceFile) → Accepts input file → Accepts taken file
+    taken_accepted file a = subst (λ xs. Accepts xs file) (sym (taken_is (accepted_short input file a))) a
 
-    serves_input : (command : Command) (file : SourceFile) → Serves command taken file → Serves command input file
-    serves_input command file s = subst (λ xs. Serves command xs file) (all_taken left left' input taken e t (serves_short command taken file s)) s
+    input_accepted : (file : SourceFile) → Accepts taken file → Accepts input file
+    input_accepted file a = subst (λ xs. Accepts xs file) (all_taken left left' input taken e t (accepted_short taken file a)) a
 
     -- what was taken is refused for what all that was left is
     same_why : (command : Command) (why other : FileRefusal) → Refuses taken command why → Refuses input command other → why ≡ other
@@ -102,10 +102,10 @@ module _ (one : OneAnswer) where
             let short : length taken ≤ max_text = grind (arith, nat_tests) in
             one_refusal one input command why other (subst (λ xs. Refuses xs command why) (all_taken left left' input taken e t short) r) q
 
-  -- a call that was refused took its input, which its command does not serve, and noted why
+  -- a call that was refused took its input, which is not accepted, and noted why
   pub refused : (c : Call) (status : ℕ) → Ends c status → status ≡ 1 → Refused c.words c.left c.left' c.noted c.noted'
   refused c _ (Ends.noted (Stops.refused {command = command} {input = input} {why = why} w t r q u) a n) e =
-      record { command = command; input = input; why = why; asked = w; taken = t; refused = r; none = serves_none one input command why r; line = a }
+      record { command = command; input = input; why = why; asked = w; taken = t; refused = r; none = accepts_none one input command why r; line = a }
   refused c _ (Ends.noted (Stops.usage w l q u) a n) e = absurd (omega arith)
   refused c _ (Ends.noted (Stops.read_fault w l r u) a n) e = absurd (omega arith)
   refused c _ (Ends.noted (Stops.write_fault k q f l r) a n) e = absurd (omega arith)
@@ -115,18 +115,17 @@ module _ (one : OneAnswer) where
   refused c _ (Ends.note_failed s a l r) e = absurd (omega arith)
   refused c _ (Ends.note_lacked_memory s a q) e = absurd (omega arith)
 
-  -- what was refused is not what the command that the words ask for serves
-  refused_serves_none : (c : Call) (asked command : Command) (input taken : List ℕ) (why : FileRefusal) (file : SourceFile) → Asks c.words asked → Asks c.words command
-      → c.left ≡ Some input → Taken c.left c.left' taken → Refuses taken asked why → Serves command input file → ⊥
-  refused_serves_none c asked command input taken why file w is e t x s =
-      serves_none one taken command why (subst (λ k. Refuses taken k why) (asks_one c.words asked command w is) x) file (serves_taken c.left c.left' input taken e t command file s)
+  -- what was refused is not accepted
+  refused_accepts_none : (c : Call) (asked : Command) (input taken : List ℕ) (why : FileRefusal) (file : SourceFile)
+      → c.left ≡ Some input → Taken c.left c.left' taken → Refuses taken asked why → Accepts input file → ⊥
+  refused_accepts_none c asked input taken why file e t x a = accepts_none one taken asked why x file (taken_accepted c.left c.left' input taken e t file a)
 
-  -- a call at an input that its command serves, with no count that rose, ends with its output
-  pub completes : (c : Call) (status : ℕ) → Ends c status → (command : Command) (input : List ℕ) (file : SourceFile) → Asks c.words command → c.left ≡ Some input → Serves command input file
+  -- a call at an input that is accepted, with no count that rose, ends with its output
+  pub completes : (c : Call) (status : ℕ) → Ends c status → (command : Command) (input : List ℕ) (file : SourceFile) → Asks c.words command → c.left ≡ Some input → Accepts input file
       → (Rose c.reads c.reads' → ⊥) → (Rose c.writes c.writes' → ⊥) → (Rose c.notes c.notes' → ⊥) → (status ≡ 0) ⊎ (status ≡ 5)
   completes c _ (Ends.done t q a k n m) command input file is e s r o p = inl refl
   completes c _ (Ends.noted (Stops.refused {command = asked} {input = taken} {why = why} w t x q u) a n) command input file is e s r o p =
-      absurd (refused_serves_none c asked command input taken why file w is e t x s)
+      absurd (refused_accepts_none c asked input taken why file e t x s)
   completes c _ (Ends.noted (Stops.usage w l q u) a n) command input file is e s r o p = absurd (asks_is_no_usage c.words command is w)
   completes c _ (Ends.noted (Stops.read_fault w l x u) a n) command input file is e s r o p = absurd (r x)
   completes c _ (Ends.noted (Stops.write_fault k q f l x) a n) command input file is e s r o p = absurd (o x)
@@ -135,17 +134,16 @@ module _ (one : OneAnswer) where
   completes c _ (Ends.note_failed s a l x) command input file is e t r o p = absurd (p x)
   completes c _ (Ends.note_lacked_memory s a q) command input file is e t r o p = inr refl
 
-  -- a call with an output took an input that its command serves
-  output_serves : (c : Call) (command : Command) (input text : List ℕ) → Asks c.words command → c.left ≡ Some input → IsOutput c.words c.left c.left' text → ServesNone command input → ⊥
-  output_serves c command input text is e t s =
-      let one_command : t.command ≡ command = asks_one c.words t.command command t.asked is in
-      let served = makes_serves command t.input text (subst (λ k. Makes k t.input text) one_command t.made) in
-      s served.0 (serves_input c.left c.left' input t.input e t.taken command served.0 served.1)
+  -- a call with an output took an input that is accepted
+  output_accepted : (c : Call) (input text : List ℕ) → c.left ≡ Some input → IsOutput c.words c.left c.left' text → AcceptsNone input → ⊥
+  output_accepted c input text e t s =
+      let made = makes_accepted t.command t.input text t.made in
+      s made.0 (input_accepted c.left c.left' input t.input e t.taken made.0 made.1)
 
   -- a call at any other input, with no count that rose, is refused
-  pub refuses : (c : Call) (status : ℕ) → Ends c status → (command : Command) (input : List ℕ) → Asks c.words command → c.left ≡ Some input → ServesNone command input
+  pub refuses : (c : Call) (status : ℕ) → Ends c status → (command : Command) (input : List ℕ) → Asks c.words command → c.left ≡ Some input → AcceptsNone input
       → (Rose c.reads c.reads' → ⊥) → (Rose c.writes c.writes' → ⊥) → (Rose c.notes c.notes' → ⊥) → (status ≡ 1) ⊎ (status ≡ 5)
-  refuses c _ (Ends.done {text = text} t q a k n m) command input is e s r o p = absurd (output_serves c command input text is e t s)
+  refuses c _ (Ends.done {text = text} t q a k n m) command input is e s r o p = absurd (output_accepted c input text e t s)
   refuses c _ (Ends.noted (Stops.refused w t x q u) a n) command input is e s r o p = inl refl
   refuses c _ (Ends.noted (Stops.usage w l q u) a n) command input is e s r o p = absurd (asks_is_no_usage c.words command is w)
   refuses c _ (Ends.noted (Stops.read_fault w l x u) a n) command input is e s r o p = absurd (r x)
@@ -158,7 +156,7 @@ module _ (one : OneAnswer) where
   -- and it notes why
   pub refuses_for : (c : Call) (status : ℕ) → Ends c status → (command : Command) (input : List ℕ) (why : FileRefusal) → Asks c.words command → c.left ≡ Some input → Refuses input command why
       → (Rose c.reads c.reads' → ⊥) → (Rose c.writes c.writes' → ⊥) → (Rose c.notes c.notes' → ⊥) → RefusedFor why status c.noted c.noted' ⊎ (status ≡ 5)
-  refuses_for c _ (Ends.done {text = text} t q a k n m) command input why is e s r o p = absurd (output_serves c command input text is e t (serves_none one input command why s))
+  refuses_for c _ (Ends.done {text = text} t q a k n m) command input why is e s r o p = absurd (output_accepted c input text e t (accepts_none one input command why s))
   refuses_for c _ (Ends.noted (Stops.refused {command = asked} {input = taken} {why = other} w t x q u) a n) command input why is e s r o p =
       let x2 = subst (λ k. Refuses taken k other) (asks_one c.words asked command w is) x in
       inl (record { is = refl; line = subst (λ v. Appends c.noted c.noted' (line_of (stop.Refused v))) (same_why c.left c.left' input taken e t command other why x2 s) a })
@@ -185,7 +183,7 @@ compiled c _ (Ends.note_lacked_memory s a q) is e = absurd (omega arith)
 pub accepted : (c : Call) (status : ℕ) → Ends c status → Asks c.words Check → status ≡ 0 → Accepted c.left c.left' c.written c.written'
 accepted c _ (Ends.done {text = text} t q a k n m) is e =
     let made = subst (λ k. Makes k t.input text) (asks_one c.words t.command Check t.asked is) t.made in
-    record { input = t.input; file = made.0.0; taken = t.taken; accepted = made.0.1; appended = subst (Appends c.written c.written') made.1 a }
+    record { input = t.input; file = made.0.file; taken = t.taken; accepted = made.0.accepted; sound = made.0.sound; appended = subst (Appends c.written c.written') made.1 a }
 accepted c _ (Ends.noted {why = stop.Refused why} s a q) is e = absurd (omega arith)
 accepted c _ (Ends.noted {why = stop.Usage} s a q) is e = absurd (omega arith)
 accepted c _ (Ends.noted {why = stop.ReadFault} s a q) is e = absurd (omega arith)

@@ -13,24 +13,22 @@ use Rattle.krml_reader.specs.Read.{IsRefused}
 use Rattle.krml_types.specs.declared.refusal.TypeRefusal.{TypeRefusal}
 use Rattle.krml_types.specs.declared.refusal.TypeRefusal.TheVariants as types
 use Rattle.krml_types.specs.Check.{IsChecked}
-use Rattle.krml_command.specs.declared.request.Command.TheVariants.{C}
+use Rattle.krml_bundle.specs.Bundled.{bundled}
+use Rattle.krml_cstar.specs.Built.{AreBuilt, first_unbuilt, IsFirstUnbuilt}
+use Rattle.krml_cstar.specs.Translation.{program_of}
+use Rattle.krml_command.specs.declared.request.Command.TheVariants.{C, Check}
 use Rattle.krml_cli.specs.declared.refusal.FileRefusal.{FileRefusal}
 use Rattle.krml_cli.specs.declared.refusal.FileRefusal.TheVariants as refusal
 use Rattle.krml_cli.specs.declared.stop.Stop.{Stop}
 use Rattle.krml_cli.specs.declared.stop.Stop.TheVariants as stop
 use Rattle.krml_cli.specs.Accept.{IsAnswered, IsNotBuiltAt}
-use Rattle.krml_cli.specs.Built.{AreBuilt, first_unbuilt, IsFirstUnbuilt}
-use Rattle.krml_cli.specs.Ends.{CompilesTo, AppendsPrefix, WritesAll, Call, Unwritten, Stops, Ends, line_of, status_of}
-use Rattle.krml_cli.specs.First.{SpellsFirst}
+use Rattle.krml_cli.specs.Ends.{CompilesTo, IsAccepted, AppendsPrefix, WritesAll, Call, Unwritten, Stops, Ends, line_of, status_of}
 use Rattle.krml_cli.specs.Refusal.{Accepts, Refuses, of_read, of_type}
-use Rattle.krml_cli.specs.Steps.{IsText, Compiles, Answers, Runs, Notes, Reports}
-use Rattle.krml_cli.specs.Translation.{program_of}
+use Rattle.krml_cli.specs.Steps.{IsText, Answers, Runs, Notes, Reports}
 use Rattle.krml_ctree.specs.WellFormed.{WellFormed}
-use Rattle.krml_cli.proofs.FirstRuns.{first_runs_are_done}
+use Rattle.krml_cli.proofs.Accepted.{runs_well, program_well_formed, is_implemented}
 use Rattle.krml_cli.proofs.Refusals.{asks_is_no_usage}
-use Rattle.krml_cli.proofs.SimulationFile.{first_files_compile}
 use Rattle.krml_cli.proofs.Unbuilt.{all_built}
-use Rattle.krml_cli.proofs.WellFormedProgram.{first_well_formed}
 
 -- ---- accepting an input
 
@@ -72,7 +70,6 @@ unbuilt_by text file typed seen why k s e t f u h = at why h (subst (λ (z : Sou
     at refusal.NoMemory h u = tt
     at (refusal.Read why) h u = absurd h
     at (refusal.«Type» def) h u = absurd h
-    at refusal.NotFirst h u = absurd h
 
 -- one whose definitions are all well typed and built
 pub accepted_by : (text : List ℕ) (file typed seen : SourceFile) → SpellsFile text file → typed ≡ file → AreWellTyped file.defs → seen ≡ typed → first_unbuilt seen.defs ≡ None → Accepts text typed
@@ -84,31 +81,25 @@ accepted_by text file typed seen s e t f n = record {
 
 -- ---- the answer of a command
 
--- what translating and printing made of a file that an input spells
-compiled_by : (input text : List ℕ) (file : SourceFile) → SpellsFile input file → IsText file text → CompilesTo input text
-compiled_by input text file spelled h =
-    let s : SpellsFirst input file = record { spelled = spelled; first = h.first } in
-    let well : WellFormed (program_of file) = first_well_formed input file s in
+-- an input that is accepted
+pub is_accepted : (input : List ℕ) (file : SourceFile) → Accepts input file → IsAccepted input
+is_accepted input file a = record { file = file; accepted = a; sound = runs_well input file a }
+
+-- what compiling made of the file of one
+pub compiles_by : (input text : List ℕ) (file : SourceFile) → Accepts input file → IsText file text → CompilesTo input text
+compiles_by input text file a h =
+    let well = program_well_formed input file a h.few in
     record {
       file = file;
-      program = program_of file;
-      spelled = s;
+      program = program_of (bundled file);
+      accepted = a;
       translated = refl;
       is = h.is;
       well_formed = well;
       alone = h.alone well;
-      implemented = first_files_compile input file s;
-      done = first_runs_are_done file;
+      implemented = is_implemented input file a h.few;
+      sound = runs_well input file a;
     }
-
--- what is made of a file that is accepted
-pub compiles_by : (text : List ℕ) (file : SourceFile) (r : Result (Vec ℕ Global) FileRefusal) → Accepts text file → Compiles file r → Answers C text r
-compiles_by text file (Ok out) a h = compiled_by text out.items file a.spelled h
-compiles_by text file (Err refusal.NoMemory) a h = tt
-compiles_by text file (Err refusal.NotFirst) a h = Refuses.not_first a h
-compiles_by text file (Err (refusal.Read why)) a h = absurd h
-compiles_by text file (Err (refusal.«Type» def)) a h = absurd h
-compiles_by text file (Err (refusal.NotBuilt def)) a h = absurd h
 
 -- a call that stops before anything is written
 pub stops_by : (c : Call) (why : Stop) → Runs c.words c.left c.left' c.reads c.reads' (Err why) → Unwritten c → Stops c why

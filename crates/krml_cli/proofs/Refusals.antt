@@ -1,4 +1,4 @@
--- A command refuses an input for one reason at most, and serves none that it refuses.
+-- A command refuses an input for one reason at most, and none that is accepted.
 use Rattle.std.proofs.Common.{◌≡◌, ℕ, ◌<◌, ◌⊎◌, inl, inr, ◌≤◌, List, length, Some, None, Result, Ok, Err, refl, sym, ap, ◌∙◌, subst}
 use Rattle.std.proofs.lemmas.Bool.{cases_order}
 use Rattle.krml_syntax.specs.declared.tree.Def.{Def}
@@ -8,16 +8,14 @@ use Rattle.krml_ast.specs.WellTyped.{AreWellTyped}
 use Rattle.krml_reader.specs.declared.refusal.ReadRefusal.{ReadRefusal}
 use Rattle.krml_reader.specs.Read.{Reads}
 use Rattle.krml_types.specs.Check.{IsFirstFault}
+use Rattle.krml_cstar.specs.Built.{AreBuilt, IsFirstUnbuilt}
 use Rattle.krml_command.specs.declared.request.Command.{Command}
 use Rattle.krml_command.specs.declared.request.Command.TheVariants.{C, Check}
 use Rattle.krml_command.specs.declared.request.Request.{Request}
 use Rattle.krml_cli.specs.declared.refusal.FileRefusal.{FileRefusal}
 use Rattle.krml_cli.specs.declared.refusal.FileRefusal.TheVariants.{Read, «Type» as IllTyped, NotBuilt}
-use Rattle.krml_cli.specs.Built.{AreBuilt, IsFirstUnbuilt}
-use Rattle.krml_cli.specs.Ends.{Asks, IsUsage, Serves, ServesNone, Makes, max_text}
-use Rattle.krml_cli.specs.First.{IsFirstFile}
+use Rattle.krml_cli.specs.Ends.{Asks, IsUsage, AcceptsNone, Makes, max_text}
 use Rattle.krml_cli.specs.Refusal.{Accepts, Refuses}
-use Rattle.krml_cli.proofs.FirstAccepted.{first_is_accepted}
 use Rattle.krml_cli.proofs.Unbuilt.{none_unbuilt}
 
 -- ---- what words ask for
@@ -85,50 +83,33 @@ module _ (one : OneAnswer) where
   unbuilt_is_not : (input : List ℕ) (f g : SourceFile) (k : ℕ) → SpellsFile input f → IsFirstUnbuilt f.defs k → Accepts input g → ⊥
   unbuilt_is_not input f g k s unbuilt a = built_has_none g.defs k a.built (subst (λ (z : SourceFile). IsFirstUnbuilt z.defs k) (same_file input f g s a.spelled) unbuilt)
 
-  -- ---- what a command refuses and what it serves
+  -- ---- what a command refuses
 
-  -- what a command serves is accepted
-  serves_accepted : (command : Command) (input : List ℕ) (file : SourceFile) → Serves command input file → Accepts input file
-  serves_accepted C input file s = first_is_accepted input file s
-  serves_accepted Check input file s = s
-
-  serves_first : (input : List ℕ) (file : SourceFile) → Serves C input file → IsFirstFile file
-  serves_first input file s = s.first
-
-  pub serves_none : (input : List ℕ) (command : Command) (why : FileRefusal) → Refuses input command why → ServesNone command input
-  serves_none input command _ (Refuses.unread {why = why} r) file s = unread_spells_none input why file r (serves_accepted command input file s).spelled
-  serves_none input command _ (Refuses.ill_typed {file = f} {def = k} u fault) file s = let a = serves_accepted command input file s in
-      ill_typed_is_not input f file k u fault a.spelled a.typed
-  serves_none input command _ (Refuses.not_built {file = f} {def = k} u typed unbuilt) file s = unbuilt_is_not input f file k u unbuilt (serves_accepted command input file s)
-  serves_none input _ _ (Refuses.not_first {file = f} a unlike) file s = unlike (subst IsFirstFile (same_file input file f s.spelled a.spelled) s.first)
+  -- an input that is refused is not accepted
+  pub accepts_none : (input : List ℕ) (command : Command) (why : FileRefusal) → Refuses input command why → AcceptsNone input
+  accepts_none input command _ (Refuses.unread {why = why} r) file a = unread_spells_none input why file r a.spelled
+  accepts_none input command _ (Refuses.ill_typed {file = f} {def = k} u fault) file a = ill_typed_is_not input f file k u fault a.spelled a.typed
+  accepts_none input command _ (Refuses.not_built {file = f} {def = k} u typed unbuilt) file a = unbuilt_is_not input f file k u unbuilt a
 
   -- it refuses an input for one reason
   pub one_refusal : (input : List ℕ) (command : Command) (why other : FileRefusal) → Refuses input command why → Refuses input command other → why ≡ other
   one_refusal input command _ _ (Refuses.unread {why = v} r) (Refuses.unread {why = w} q) = ap Read (same_unread input v w r q)
   one_refusal input command _ _ (Refuses.unread {why = v} r) (Refuses.ill_typed {file = f} u fault) = absurd (unread_spells_none input v f r u)
   one_refusal input command _ _ (Refuses.unread {why = v} r) (Refuses.not_built {file = f} u typed unbuilt) = absurd (unread_spells_none input v f r u)
-  one_refusal input command _ _ (Refuses.unread {why = v} r) (Refuses.not_first {file = f} a unlike) = absurd (unread_spells_none input v f r a.spelled)
   one_refusal input command _ _ (Refuses.ill_typed {file = f} u fault) (Refuses.unread {why = v} r) = absurd (unread_spells_none input v f r u)
   one_refusal input command _ _ (Refuses.ill_typed {file = f} {def = j} u fault) (Refuses.ill_typed {file = g} {def = k} v other) =
       ap IllTyped (same_fault f.defs j k fault (subst (λ (z : SourceFile). IsFirstFault z.defs k) (same_file input g f v u) other))
   one_refusal input command _ _ (Refuses.ill_typed {file = f} {def = k} u fault) (Refuses.not_built {file = g} v typed unbuilt) = absurd (ill_typed_is_not input f g k u fault v typed)
-  one_refusal input command _ _ (Refuses.ill_typed {file = f} {def = k} u fault) (Refuses.not_first {file = g} a unlike) = absurd (ill_typed_is_not input f g k u fault a.spelled a.typed)
   one_refusal input command _ _ (Refuses.not_built {file = f} u typed unbuilt) (Refuses.unread {why = v} r) = absurd (unread_spells_none input v f r u)
   one_refusal input command _ _ (Refuses.not_built {file = g} v typed unbuilt) (Refuses.ill_typed {file = f} {def = k} u fault) = absurd (ill_typed_is_not input f g k u fault v typed)
   one_refusal input command _ _ (Refuses.not_built {file = f} {def = j} u typed unbuilt) (Refuses.not_built {file = g} {def = k} v also other) =
       ap NotBuilt (some_is j k (sym unbuilt ∙ subst (λ (z : SourceFile). IsFirstUnbuilt z.defs k) (same_file input g f v u) other))
-  one_refusal input command _ _ (Refuses.not_built {file = f} {def = k} u typed unbuilt) (Refuses.not_first a unlike) = absurd (unbuilt_is_not input f _ k u unbuilt a)
-  one_refusal input command _ _ (Refuses.not_first {file = f} a unlike) (Refuses.unread {why = v} r) = absurd (unread_spells_none input v f r a.spelled)
-  one_refusal input command _ _ (Refuses.not_first {file = g} a unlike) (Refuses.ill_typed {file = f} {def = k} u fault) = absurd (ill_typed_is_not input f g k u fault a.spelled a.typed)
-  one_refusal input command _ _ (Refuses.not_first a unlike) (Refuses.not_built {file = f} {def = k} u typed unbuilt) = absurd (unbuilt_is_not input f _ k u unbuilt a)
-  one_refusal input command _ _ (Refuses.not_first a unlike) (Refuses.not_first b other) = refl
 
--- a command serves what it makes something of
-pub makes_serves : (command : Command) (input text : List ℕ) → Makes command input text → (file : SourceFile) × Serves command input file
-makes_serves C input text m = (m.file, m.spelled)
-makes_serves Check input text m = m.0
+-- what a command makes something of is accepted
+pub makes_accepted : (command : Command) (input text : List ℕ) → Makes command input text → (file : SourceFile) × Accepts input file
+makes_accepted C input text m = (m.file, m.accepted)
+makes_accepted Check input text m = (m.0.file, m.0.accepted)
 
--- which is no longer than a text may be
-pub serves_short : (command : Command) (input : List ℕ) (file : SourceFile) → Serves command input file → length input ≤ max_text
-serves_short C input file s = s.spelled.short
-serves_short Check input file s = s.spelled.short
+-- and no longer than a text may be
+pub accepted_short : (input : List ℕ) (file : SourceFile) → Accepts input file → length input ≤ max_text
+accepted_short input file a = a.spelled.short

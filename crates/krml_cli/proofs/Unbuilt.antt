@@ -3,7 +3,7 @@ use Rattle.std.proofs.Common.{◌≡◌, ℕ, ◌+◌, Bool, true, false, not, c
 use Rattle.std.specs.List.{position_from}
 use Rattle.std.proofs.lemmas.Iterator.Adapters.{position_from-zero}
 use Rattle.krml_syntax.specs.declared.tree.Def.{Def}
-use Rattle.krml_cli.specs.Built.{is_built, AreBuilt, first_unbuilt}
+use Rattle.krml_cstar.specs.Built.{is_built, AreBuilt, first_unbuilt}
 
 abbrev unbuilt : Def → Bool
 unbuilt def = not (is_built def)

@@ -3,17 +3,15 @@ use Rattle.std.specs.Prelude.{◌≡◌, ℕ, ◌+◌, ◌≤◌, ◌⊎◌, ◌
 use Rattle.std.specs.declared.alloc.Global.{Global}
 use Rattle.std.specs.Io.KnownBytes.{Consumes, Appends, IsAtEnd}
 use Rattle.krml_trace.specs.Outside.{Rose}
-use Rattle.krml_trace.specs.declared.arguments.Arguments.{Arguments}
-use Rattle.krml_trace.specs.declared.bound.Bound.{Bound}
 use Rattle.krml_trace.specs.declared.outside.SinkFault.{SinkFault}
 use Rattle.krml_trace.specs.declared.outside.SinkFault.TheVariants as fault
 use Rattle.krml_syntax.specs.declared.tree.SourceFile.{SourceFile}
-use Rattle.krml_cli.specs.First.{IsFirstFile, SpellsFirst}
-use Rattle.krml_ast.specs.Meaning.{ArgumentsFit, source_run}
 use Rattle.krml_ctree.specs.declared.tree.CProgram.{CProgram}
-use Rattle.krml_ctree.specs.Spelling.{SpellsProgram}
+use Rattle.krml_ctree.specs.Spelling.{SpelledAlone}
 use Rattle.krml_ctree.specs.Text.{text_of}
 use Rattle.krml_ctree.specs.WellFormed.{WellFormed}
+use Rattle.krml_bundle.specs.Bundled.{bundled}
+use Rattle.krml_cstar.specs.Translation.{program_of}
 use Rattle.krml_command.specs.declared.request.Command.{Command}
 use Rattle.krml_command.specs.declared.request.Command.TheVariants.{C, Check}
 use Rattle.krml_command.specs.declared.request.Request.{Request}
@@ -22,8 +20,7 @@ use Rattle.krml_cli.specs.declared.stop.Stop.{Stop}
 use Rattle.krml_cli.specs.declared.stop.Stop.TheVariants as stop
 use Rattle.krml_cli.specs.declared.refusal.FileRefusal.{FileRefusal}
 use Rattle.krml_cli.specs.Refusal.{Accepts, Refuses, refusal_line}
-use Rattle.krml_cli.specs.Theorem.{IsImplementedBy, IsDone}
-use Rattle.krml_cli.specs.Translation.{program_of}
+use Rattle.krml_cli.specs.Theorem.{IsImplementedBy, EachRunsWell}
 
 -- the bytes of a source text at the most
 abbrev pub max_text : ℕ
@@ -65,26 +62,24 @@ pub record Asks (words : List (List ℕ)) (command : Command) : Type 0 where
 abbrev pub IsUsage : List (List ℕ) → Type 0
 IsUsage words = request_of [] words ≡ None
 
--- A text spells a program, and no other.
-abbrev pub SpelledAlone : List ℕ → CProgram → Type 0
-SpelledAlone text p = (q : CProgram) → SpellsProgram text q ↔ (q ≡ p)
-
--- An input compiles to a text: it spells a first file, and the text is that of the file's program. The program is well
--- formed, the text spells it alone, and it does what the file does. The runs of a first file on arguments that fit are done.
+-- An input compiles to a text: it is accepted, and the text is that of its file's program. The program is well formed, the
+-- text spells it alone, and it does what the file does, whose runs end as they should.
 pub record CompilesTo (input text : List ℕ) : Type 0 where
   pub file : SourceFile
   pub program : CProgram
-  pub spelled : SpellsFirst input file
-  pub translated : program ≡ program_of file
+  pub accepted : Accepts input file
+  pub translated : program ≡ program_of (bundled file)
   pub is : text ≡ text_of program
   pub well_formed : WellFormed program
   pub alone : SpelledAlone text program
   pub implemented : IsImplementedBy file program
-  pub done : IsFirstFile file → (entry : List ℕ) (args : Arguments) (bound : Bound) → ArgumentsFit file entry args → IsDone (source_run file entry args bound).outcome
+  pub sound : EachRunsWell file
 
--- An input is accepted, as some file.
-abbrev pub IsAccepted : List ℕ → Type 0
-IsAccepted input = (file : SourceFile) × Accepts input file
+-- An input is accepted, as some file, whose runs end as they should.
+pub record IsAccepted (input : List ℕ) : Type 0 where
+  pub file : SourceFile
+  pub accepted : Accepts input file
+  pub sound : EachRunsWell file
 
 -- what `check` writes
 abbrev pub accepted_line : List ℕ
@@ -95,13 +90,9 @@ abbrev pub Makes : Command → List ℕ → List ℕ → Type 0
 Makes C input text = CompilesTo input text
 Makes Check input text = IsAccepted input × (text ≡ accepted_line)
 
--- A command serves an input that spells a file: `c` a first one, and `check` one that is accepted.
-abbrev pub Serves : Command → List ℕ → SourceFile → Type 0
-Serves C input file = SpellsFirst input file
-Serves Check input file = Accepts input file
-
-abbrev pub ServesNone : Command → List ℕ → Type 0
-ServesNone command input = (file : SourceFile) → Serves command input file → ⊥
+-- No file is accepted.
+abbrev pub AcceptsNone : List ℕ → Type 0
+AcceptsNone input = (file : SourceFile) → Accepts input file → ⊥
 
 -- The words ask for a command, the input was taken, and the command makes this text of it.
 pub record IsOutput (words : List (List ℕ)) (left left' : Option (List ℕ)) (text : List ℕ) : Type 0 where
@@ -207,10 +198,10 @@ pub record Accepted (left left' written written' : Option (List ℕ)) : Type 0 w
   pub file : SourceFile
   pub taken : Taken left left' input
   pub accepted : Accepts input file
+  pub sound : EachRunsWell file
   pub appended : Appends written written' accepted_line
 
--- The input was taken, the command that the words ask for does not serve it, and the line of the one refusal that it
--- meets was noted.
+-- The input was taken, it is not accepted, and the line of the one refusal that it meets was noted.
 pub record Refused (words : List (List ℕ)) (left left' noted noted' : Option (List ℕ)) : Type 0 where
   pub command : Command
   pub input : List ℕ
@@ -218,7 +209,7 @@ pub record Refused (words : List (List ℕ)) (left left' noted noted' : Option (
   pub asked : Asks words command
   pub taken : Taken left left' input
   pub refused : Refuses input command why
-  pub none : ServesNone command input
+  pub none : AcceptsNone input
   pub line : Appends noted noted' (line_of (stop.Refused why))
 
 -- A call was refused for this, and its line was noted.

@@ -1,12 +1,5 @@
 pub mod Accept
-pub mod Built
-pub mod Emitting
 pub mod Ends
-pub mod First
-pub mod FirstFile
-pub mod Image
-pub mod Printing
 pub mod Refusal
 pub mod Steps
 pub mod Theorem
-pub mod Translation

@@ -13,11 +13,9 @@ use Rattle.krml_types.specs.declared.refusal.TypeRefusal.{TypeRefusal}
 use Rattle.krml_types.specs.declared.refusal.TypeRefusal.TheVariants as y
 use Rattle.krml_types.specs.Check.{IsFirstFault}
 use Rattle.krml_command.specs.declared.request.Command.{Command}
-use Rattle.krml_command.specs.declared.request.Command.TheVariants.{C}
+use Rattle.krml_cstar.specs.Built.{AreBuilt, IsFirstUnbuilt}
 use Rattle.krml_cli.specs.declared.refusal.FileRefusal.{FileRefusal}
-use Rattle.krml_cli.specs.declared.refusal.FileRefusal.TheVariants.{Read, «Type» as IllTyped, NotBuilt, NotFirst, NoMemory}
-use Rattle.krml_cli.specs.Built.{AreBuilt, IsFirstUnbuilt}
-use Rattle.krml_cli.specs.First.{IsFirstFile}
+use Rattle.krml_cli.specs.declared.refusal.FileRefusal.TheVariants.{Read, «Type» as IllTyped, NotBuilt, NoMemory}
 
 -- An input is accepted: it spells a file within the limits, and each definition is well typed and built.
 pub record Accepts (input : List ℕ) (file : SourceFile) : Type 0 where
@@ -26,13 +24,12 @@ pub record Accepts (input : List ℕ) (file : SourceFile) : Type 0 where
   pub built : AreBuilt file.defs
 
 -- A command refuses an input: it is not read, or the first definition of what it spells that is not well typed, or else
--- not built, is this one, or the file that it spells is accepted, but no first one, and is to be compiled.
+-- not built, is this one.
 pub data Refuses (input : List ℕ) : Command → FileRefusal → Type 0 where
   unread : {command : Command} {why : ReadRefusal} → Reads input (Err why) → Refuses input command (Read why)
   ill_typed : {command : Command} {file : SourceFile} {def : ℕ} → SpellsFile input file → IsFirstFault file.defs def → Refuses input command (IllTyped def)
   not_built : {command : Command} {file : SourceFile} {def : ℕ} → SpellsFile input file → AreWellTyped file.defs → IsFirstUnbuilt file.defs def
       → Refuses input command (NotBuilt def)
-  not_first : {file : SourceFile} → Accepts input file → (IsFirstFile file → ⊥) → Refuses input C NotFirst
 
 -- want of memory while reading, or while checking types, is want of memory
 abbrev pub of_read : ReadRefusal → FileRefusal
@@ -65,7 +62,6 @@ abbrev pub refusal_words : FileRefusal → List ℕ
 refusal_words (Read why) = read_words why
 refusal_words (IllTyped def) = codes "type fault in definition " ++ decimal def
 refusal_words (NotBuilt def) = codes "not built " ++ decimal def
-refusal_words NotFirst = codes "not built"
 refusal_words NoMemory = codes "out of memory"
 
 abbrev pub refusal_line : FileRefusal → List ℕ

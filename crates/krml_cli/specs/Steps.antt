@@ -4,8 +4,12 @@ use Rattle.std.specs.declared.alloc.Global.{Global}
 use Rattle.std.specs.Io.KnownBytes.{Appends}
 use Rattle.krml_trace.specs.Outside.{Rose}
 use Rattle.krml_syntax.specs.declared.tree.SourceFile.{SourceFile}
+use Rattle.krml_ctree.specs.Spelling.{SpelledAlone}
 use Rattle.krml_ctree.specs.Text.{text_of}
 use Rattle.krml_ctree.specs.WellFormed.{WellFormed}
+use Rattle.krml_bundle.specs.Bundled.{bundled}
+use Rattle.krml_cstar.specs.Count.{HaveFewVariables}
+use Rattle.krml_cstar.specs.Translation.{program_of}
 use Rattle.krml_command.specs.declared.refusal.WordsRefusal.{WordsRefusal}
 use Rattle.krml_command.specs.declared.refusal.WordsRefusal.TheVariants as words
 use Rattle.krml_command.specs.declared.request.Command.{Command}
@@ -13,23 +17,15 @@ use Rattle.krml_cli.specs.declared.refusal.FileRefusal.{FileRefusal}
 use Rattle.krml_cli.specs.declared.refusal.FileRefusal.TheVariants as refusal
 use Rattle.krml_cli.specs.declared.stop.Stop.{Stop}
 use Rattle.krml_cli.specs.declared.stop.Stop.TheVariants as stop
-use Rattle.krml_cli.specs.Ends.{Asks, IsUsage, Taken, SpelledAlone, Makes, IsOutput, AppendsPrefix, status_of, line_of}
-use Rattle.krml_cli.specs.First.{IsFirstFile}
+use Rattle.krml_cli.specs.Ends.{Asks, IsUsage, Taken, Makes, IsOutput, AppendsPrefix, status_of, line_of}
 use Rattle.krml_cli.specs.Refusal.{Refuses}
-use Rattle.krml_cli.specs.Translation.{program_of}
 
--- The C text of a first file. Where it is well formed, no other program has this text.
+-- The C text of a file. Its functions have no more variables than names tell apart, and where its program is well formed, the
+-- text spells no other one.
 pub record IsText (file : SourceFile) (text : List ℕ) : Type 0 where
-  pub first : IsFirstFile file
-  pub is : text ≡ text_of (program_of file)
-  pub alone : WellFormed (program_of file) → SpelledAlone text (program_of file)
-
--- What is made of a file.
-abbrev pub Compiles : SourceFile → Result (Vec ℕ Global) FileRefusal → Type 0
-Compiles file (Ok text) = IsText file text.items
-Compiles file (Err refusal.NoMemory) = Unit {0}
-Compiles file (Err refusal.NotFirst) = IsFirstFile file → ⊥
-Compiles file (Err _) = ⊥
+  pub few : HaveFewVariables (bundled file).defs
+  pub is : text ≡ text_of (program_of (bundled file))
+  pub alone : WellFormed (program_of (bundled file)) → SpelledAlone text (program_of (bundled file))
 
 -- What a command answers to an input.
 abbrev pub Answers : Command → List ℕ → Result (Vec ℕ Global) FileRefusal → Type 0

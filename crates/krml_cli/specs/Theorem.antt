@@ -1,32 +1,38 @@
 -- What it means that a program of C does what a file of the source does.
-use Rattle.std.specs.Prelude.{◌≡◌, ℕ, List, [], Some}
+use Rattle.std.specs.Prelude.{◌≡◌, ℕ, List, map}
 use Rattle.krml_trace.specs.declared.arguments.Arguments.{Arguments}
 use Rattle.krml_trace.specs.declared.bound.Bound.{Bound}
-use Rattle.krml_trace.specs.declared.outcome.Outcome.{Outcome}
-use Rattle.krml_trace.specs.declared.outcome.Outcome.TheVariants as outcome
 use Rattle.krml_trace.specs.Run.{NotStuck}
-use Rattle.krml_ast.specs.declared.run.SourceRun.{SourceRun}
 use Rattle.krml_syntax.specs.declared.tree.SourceFile.{SourceFile}
-use Rattle.krml_ast.specs.Meaning.{ArgumentsFit, source_run}
+use Rattle.krml_ast.specs.declared.event.SourceEvent.{SourceEvent}
+use Rattle.krml_ast.specs.declared.run.SourceRun.{SourceRun}
+use Rattle.krml_meaning.specs.Meaning.{ArgumentsFit, source_run}
+use Rattle.krml_meaning.specs.Sound.{RunsWell}
+use Rattle.krml_ctree.specs.declared.event.CEvent.{CEvent}
 use Rattle.krml_ctree.specs.declared.run.CRun.{CRun}
 use Rattle.krml_ctree.specs.declared.tree.CProgram.{CProgram}
 use Rattle.krml_ctree.specs.Meaning.{c_run}
-use Rattle.krml_cli.specs.Image.{image_c}
-use Rattle.krml_cli.specs.Translation.{emitted}
+use Rattle.krml_bundle.specs.Emitted.{emitted_fun}
+use Rattle.krml_bundle.specs.Bundled.{bundled, event_bundled}
+use Rattle.krml_cstar.specs.Image as bundle
 
--- A run of C does what a run of the source does: the outcomes are the same, and the events are the image of the source's.
-pub record DoesTheSame (source : SourceRun) (c : CRun) : Type 0 where
+-- The events of C that stand for those of a run of a file: they have the names that C has for the file's.
+abbrev pub image_c : SourceFile → List SourceEvent → List CEvent
+image_c file es = bundle.image_c (bundled file).defs (map event_bundled es)
+
+-- A run of C does what a run of a file does: the outcomes are the same, and the events are the image of the source's.
+pub record DoesTheSame (file : SourceFile) (source : SourceRun) (c : CRun) : Type 0 where
   pub outcome : c.outcome ≡ source.outcome
-  pub events : c.events ≡ image_c source.events
+  pub events : c.events ≡ image_c file source.events
 
 -- A program does what a file does: for each entry of the file, all arguments that fit it and each bound, where the run of
 -- the source is not stuck, the function that the entry became does the same on these arguments under this bound.
 abbrev pub IsImplementedBy : SourceFile → CProgram → Type 0
 IsImplementedBy file program = (entry : List ℕ) (args : Arguments) (bound : Bound) → ArgumentsFit file entry args
     → NotStuck (source_run file entry args bound).outcome
-    → DoesTheSame (source_run file entry args bound) (c_run program (emitted entry) args bound)
+    → DoesTheSame file (source_run file entry args bound) (c_run program (emitted_fun entry) args bound)
 
--- A run went to its end, with a number as its result and no buffers.
-pub record IsDone (o : Outcome) : Type 0 where
-  pub result : ℕ
-  pub is : o ≡ outcome.Done (Some result) []
+-- Each run of an entry on arguments that fit it ends as one of its function: it is done, with a result exactly where the
+-- function has one, or it wants for ticks or levels, or is stuck.
+abbrev pub EachRunsWell : SourceFile → Type 0
+EachRunsWell file = (entry : List ℕ) (args : Arguments) (bound : Bound) → ArgumentsFit file entry args → RunsWell file entry args bound

@@ -1,7 +1,7 @@
 //! Which definitions are of the part of the language that is built.
 
 ghost use Rattle.std.specs.Prelude.{◌≡◌, map};
-ghost use Rattle.krml_cli.specs.Built.{all, is_public, is_ty_built, are_fields_built, is_expr_built, is_item_built, is_built, first_unbuilt};
+ghost use Rattle.krml_cstar.specs.Built.{all, is_public, is_ty_built, are_fields_built, is_expr_built, is_item_built, is_built, first_unbuilt};
 
 use krml_ast::{Def, Expr, Field, IntTy, Item, SourceFile, Ty};
 
@@ -44,6 +44,11 @@ fn is_expr_built(expr: &Expr) -> bool
         Expr::If(c, a, b) => is_expr_built(c.get())
             && is_expr_built(a.get())
             && is_expr_built(b.get()),
+        Expr::While(c, a) => is_expr_built(c.get()) && is_expr_built(a.get()),
+        Expr::For(_, a, b, c) => is_expr_built(a.get())
+            && is_expr_built(b.get())
+            && is_expr_built(c.get()),
+        Expr::Call(_, args, values) => args.is_empty() && are_exprs_built(values.as_slice()),
         Expr::Do(items, a) => are_items_built(items.as_slice()) && is_expr_built(a.get()),
         _ => false,
     }

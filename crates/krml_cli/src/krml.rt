@@ -8,34 +8,20 @@ ghost use Rattle.krml_command.specs.declared.request.Command.TheVariants.{C, Che
 ghost use Rattle.krml_cli.specs.declared.refusal.FileRefusal.{FileRefusal};
 ghost use Rattle.krml_cli.specs.declared.stop.Stop.{Stop};
 ghost use Rattle.krml_cli.specs.declared.stop.Stop.TheVariants as stop;
-ghost use Rattle.krml_cli.specs.Ends.{Asks, IsUsage, Serves, ServesNone, Compiled, Accepted, Refused, RefusedFor, FailedNotes, PrefixOnly, AppendsPrefix, IsNoted, IsPlain, IsCut, IsLine, status_of, line_of, Ends};
-ghost use Rattle.krml_cli.specs.Refusal.{Refuses};
-ghost use Rattle.krml_cli.specs.Steps.{Compiles, Answers, Runs, Notes, Reports};
+ghost use Rattle.krml_cli.specs.Ends.{Asks, IsUsage, AcceptsNone, Compiled, Accepted, Refused, RefusedFor, FailedNotes, PrefixOnly, AppendsPrefix, IsNoted, IsPlain, IsCut, IsLine, status_of, line_of, Ends};
+ghost use Rattle.krml_cli.specs.Refusal.{Accepts, Refuses};
+ghost use Rattle.krml_cli.specs.Steps.{Answers, Runs, Notes, Reports};
 
 use crate::accept::accept;
-use crate::first::is_first_file;
+use crate::compile::compile;
 use crate::input::read_input;
 use crate::output::write_all;
-use crate::print::print;
 use crate::refusal::{FileRefusal, refusal_line};
 use crate::stop::Stop;
-use crate::translate::translate;
-use krml_ast::SourceFile;
 use krml_command::{Command, read_words};
 use krml_reader::one_answer;
 use krml_trace::{Sink, SinkFault, Source};
 use std::alloc::{AllocError, Global};
-
-/// The C text of a file.
-fn compile(alloc: Global, file: &SourceFile) -> Result<Vec<u8>, FileRefusal>
-    ensures { Compiles file.now result }
-{
-    if !is_first_file(file) {
-        return Err(FileRefusal::NotFirst);
-    }
-    let program = translate(alloc, file)?;
-    Ok(print(alloc, &program)?)
-}
 
 /// What a command writes of a source text.
 fn answer(alloc: Global, command: Command, text: &[u8]) -> Result<Vec<u8>, FileRefusal>
@@ -43,7 +29,7 @@ fn answer(alloc: Global, command: Command, text: &[u8]) -> Result<Vec<u8>, FileR
 {
     let typed = accept(alloc, text)?;
     match command {
-        Command::C => compile(alloc, typed.file()),
+        Command::C => Ok(compile(alloc, typed.into_file())?),
         Command::Check => Ok(Vec::from_slice(alloc, b"accepted\n")?),
     }
 }
@@ -117,13 +103,13 @@ fn command<S: Source, K: Sink, E: Sink>(
     }
 }
 
-/// Runs the command that the words ask for, over the text of `source`: `c` writes the C text of a first file, and `check`
-/// writes `accepted` where the text is accepted. Gives the status.
+/// Runs the command that the words ask for, over the text of `source`: `c` writes its C text, and `check` writes `accepted`.
+/// Gives the status.
 ///
 /// | Status | Comes | Line on `notes` |
 /// |---|---|---|
 /// | 0 | the output was written | none |
-/// | 1 | the input is refused: it is not read, ill typed or not built, or for `c` no first file | `krml: refused: ` and why |
+/// | 1 | the input is refused: it is not read, ill typed or not built | `krml: refused: ` and why |
 /// | 2 | the words ask for no command | `krml: usage` |
 /// | 3 | the source's count of faults rose | `krml: read fault` |
 /// | 4 | the count of `out` or of `notes` rose | `krml: write fault`, tried where `out` failed |
@@ -137,20 +123,20 @@ pub fn krml<S: Source, K: Sink, E: Sink>(
 ) -> u8
     ensures known { result ≤ 5 }
 
-    // With status 0 of `c` the input was read to its end, it spells a first file, and the text of its program was written, which
-    // does what the file does: the same outcome, and the image of its events, wherever the file is not stuck.
+    // With status 0 of `c` the input was read to its end, it spells a file whose definitions are well typed and built, and the
+    // text of its program was written, which is well formed and does what the file does: the same outcome, and the image of its
+    // events, for each entry, all arguments that fit and each bound, wherever the file is not stuck.
     ensures compiled { Asks (map string_bytes words.now) C → result ≡ 0 → Compiled (S.left source.old) (S.left source.new) (K.written out.old) (K.written out.new) }
-    // With status 0 of `check` it spells a file whose definitions are well typed and built, and `accepted` was written.
+    // With status 0 of `check` it spells such a file, no run of which is undefined, and `accepted` was written.
     ensures accepted { Asks (map string_bytes words.now) Check → result ≡ 0 → Accepted (S.left source.old) (S.left source.new) (K.written out.old) (K.written out.new) }
-    // With status 1 the command does not serve it, and why it is refused was noted.
+    // With status 1 it spells no such file, and why it is refused was noted.
     ensures refused { result ≡ 1 → Refused (map string_bytes words.now) (S.left source.old) (S.left source.new) (E.written notes.old) (E.written notes.new) }
 
-    // Where no count rose, an input that the command serves gets its output, and every other one is refused, unless memory
-    // runs out: `c` serves first files, and `check` those that are accepted.
-    ensures completes { (command : Command) (input : List ℕ) (file : SourceFile) → Asks (map string_bytes words.now) command → S.left source.old ≡ Some input → Serves command input file
+    // Where no count rose, an input that is accepted gets its output, and every other one is refused, unless memory runs out.
+    ensures completes { (command : Command) (input : List ℕ) (file : SourceFile) → Asks (map string_bytes words.now) command → S.left source.old ≡ Some input → Accepts input file
         → (Rose (S.faults source.old) (S.faults source.new) → ⊥) → (Rose (K.faults out.old) (K.faults out.new) → ⊥) → (Rose (E.faults notes.old) (E.faults notes.new) → ⊥)
         → (result ≡ 0) ⊎ (result ≡ 5) }
-    ensures refuses { (command : Command) (input : List ℕ) → Asks (map string_bytes words.now) command → S.left source.old ≡ Some input → ServesNone command input
+    ensures refuses { (command : Command) (input : List ℕ) → Asks (map string_bytes words.now) command → S.left source.old ≡ Some input → AcceptsNone input
         → (Rose (S.faults source.old) (S.faults source.new) → ⊥) → (Rose (K.faults out.old) (K.faults out.new) → ⊥) → (Rose (E.faults notes.old) (E.faults notes.new) → ⊥)
         → (result ≡ 1) ⊎ (result ≡ 5) }
     ensures refuses_for { (command : Command) (input : List ℕ) (why : FileRefusal) → Asks (map string_bytes words.now) command → S.left source.old ≡ Some input → Refuses input command why

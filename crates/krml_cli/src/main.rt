@@ -3,20 +3,15 @@
 
 mod accept;
 mod built;
+mod compile;
 mod count;
-mod emitter;
-mod first;
 mod input;
 mod krml;
-mod names;
 mod output;
-mod print;
 mod refusal;
-mod scope;
 mod stop;
 #[cfg(test)]
 mod tests;
-mod translate;
 #[cfg(test)]
 mod typing_tests;
 

@@ -22,9 +22,6 @@ pub enum FileRefusal {
     /// The first definition outside the part of the language that is built, by its place from 0.
     #[error("definition {def} is not built")]
     NotBuilt { def: u32 },
-    /// The file is no first one, and is to be compiled.
-    #[error("the file is not built")]
-    NotFirst,
     #[error("out of memory")]
     NoMemory,
 }
@@ -119,7 +116,6 @@ fn refusal_words(alloc: Global, why: &FileRefusal) -> Result<String, NoMemory>
         FileRefusal::Read(why) => read_words(alloc, why),
         FileRefusal::Type { def } => format!(in alloc; "type fault in definition {def}"),
         FileRefusal::NotBuilt { def } => format!(in alloc; "not built {def}"),
-        FileRefusal::NotFirst => String::from_str(alloc, "not built"),
         FileRefusal::NoMemory => String::from_str(alloc, "out of memory"),
     }
 }

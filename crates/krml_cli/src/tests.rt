@@ -1,11 +1,7 @@
 ghost use Rattle.std.specs.Prelude.{◌≢◌, ◌≤◌, IfOk};
 
 use crate::krml::krml;
-use krml_ast::{SourceEvent, SourceRun, evaluate_source};
-use krml_reader::read_file;
-use krml_trace::{
-    Arg, Arguments, Bound, MemSink, MemSource, Name, Outcome, Seq, SureSink, SureSource, Width,
-};
+use krml_trace::{MemSink, MemSource, SureSink, SureSource};
 use std::alloc::{AllocError, Global};
 use std::test::Fail;
 
@@ -163,13 +159,16 @@ fn command_lines(rt: HostRuntime) -> Result<(), Fail> {
 
 #[test]
 fn accepted_texts(rt: HostRuntime) -> Result<(), Fail> {
-    let cases: [&[u8]; 6] = [
+    let cases: [&[u8]; 9] = [
         b"",
         b"; a comment",
         FIRST,
         b"(table t u32 5 6) (fun f () ((i u32)) u32 (tab t i)) (entry f)",
         b"(struct p () (x u8) (y bool)) (fun f () ((a p)) p (make p () (get x a) (not (get y a))))",
         b"(fun f () ((a u32)) bool (do (let b u64 (cast u32 u64 (shl u32 a (u32 3)))) (le u64 b (u64 9))))",
+        b"(fun f () () unit (while true unit)) (entry f)",
+        b"(fun f () () unit (for i (u32 0) (u32 9) unit))",
+        b"(fun f () () unit (call g ())) (fun g () () unit (call f ()))",
     ];
     for input in cases {
         let a = run(rt.alloc(), &["check"], input, 4096, [&[], &[], &[]])?;
@@ -195,15 +194,11 @@ fn is_refused(
 
 #[test]
 fn refused_definitions(rt: HostRuntime) -> Result<(), Fail> {
-    let cases: [(&[u8], &[u8]); 16] = [
+    let cases: [(&[u8], &[u8]); 14] = [
         (b"(sum s () (A))", b"not built 0"),
         (
             b"(fun f () () unit (frame (while true (do (let b (buf u8) (alloc u8 1 (u8 0))) unit)))) (entry f)",
             b"type fault in definition 0",
-        ),
-        (
-            b"(fun f () () unit (while true unit)) (entry f)",
-            b"not built 0",
         ),
         (
             b"(fun f () () u32 (u8 1)) (sum s () (A))",
@@ -220,7 +215,7 @@ fn refused_definitions(rt: HostRuntime) -> Result<(), Fail> {
             b"(table t u8 1) (sum s () (A)) (sum r () (B))",
             b"not built 1",
         ),
-        // Buffers, type variables, secret types, loops and calls.
+        // Buffers, type variables and secret types.
         (b"(fun f () ((b (buf u8))) unit unit)", b"not built 0"),
         (b"(fun f () () u8 (frame (u8 1)))", b"not built 0"),
         (b"(struct p ('a) (x 'a))", b"not built 0"),
@@ -228,11 +223,7 @@ fn refused_definitions(rt: HostRuntime) -> Result<(), Fail> {
         (b"(fun f () ((a u8)) su8 (hide u8 a))", b"not built 0"),
         (b"(fun f () () su8 (su8 1))", b"not built 0"),
         (
-            b"(fun f () () unit (for i (u32 0) (u32 9) unit))",
-            b"not built 0",
-        ),
-        (
-            b"(fun f () () unit unit) (fun g () () unit (call f ()))",
+            b"(fun f () () unit unit) (fun g ('a) () unit unit)",
             b"not built 1",
         ),
     ];
@@ -240,19 +231,6 @@ fn refused_definitions(rt: HostRuntime) -> Result<(), Fail> {
         for command in ["c", "check"] {
             assert!(rt; is_refused(rt.alloc(), command, input, words)?);
         }
-    }
-    Ok(())
-}
-
-#[test]
-fn accepted_files_that_are_no_first_ones(rt: HostRuntime) -> Result<(), Fail> {
-    let cases: [&[u8]; 3] = [
-        b"",
-        b"(table t u32 5 6) (fun f () ((i u32)) u32 (tab t i)) (entry f)",
-        b"(fun f () () u8 (u8 1)) (entry f)",
-    ];
-    for input in cases {
-        assert!(rt; is_refused(rt.alloc(), "c", input, b"not built")?);
     }
     Ok(())
 }
@@ -303,114 +281,166 @@ fn refusals(rt: HostRuntime) -> Result<(), Fail> {
     Ok(())
 }
 
+/// A prefix is accepted where it ends between definitions.
 #[test]
 fn cut_at_every_byte(rt: HostRuntime) -> Result<(), Fail> {
+    let function = FIRST.len() - b"\n(entry f)\n".len();
     let whole = FIRST.len() - 1;
-    for at in 0..whole {
+    for at in 0..=whole {
+        let between = at == 0 || at == function || at == function + 1 || at == whole;
         assert_eq!(rt;
             sure_status(rt.alloc(), &["c"], &FIRST[..at])?,
-            1,
+            if between { 0 } else { 1 },
             "at {at}"
         );
     }
-    assert_eq!(rt; sure_status(rt.alloc(), &["c"], &FIRST[..whole])?, 0);
     Ok(())
 }
 
-/// Two numbers of 32 bits.
-fn two(alloc: Global, x: u32, y: u32) -> Result<Arguments, AllocError> {
-    let mut items = Seq::new(alloc);
-    items.push(Arg::Num(Width::W32, u64::from(x)))?;
-    items.push(Arg::Num(Width::W32, u64::from(y)))?;
-    Ok(Arguments { items })
+/// Texts, and what `c` writes for them behind the first line.
+const TEXTS: [(&[u8], &[u8]); 10] = [
+    // The empty text.
+    (b";", b""),
+    // A table is a constant array.
+    (
+        b"(table t u32 5 6) (fun f () ((i u32)) u32 (tab t i)) (entry f)",
+        b"static const uint32_t t_t[2] = {5u, 6u};
+uint32_t f_f(uint32_t v0_i);
+uint32_t f_f(uint32_t v0_i) {
+  uint32_t v1 = t_t[v0_i];
+  return v1;
 }
-
-/// A number of 32 bits, and one of 64.
-fn wide(alloc: Global) -> Result<Arguments, AllocError> {
-    let mut items = Seq::new(alloc);
-    items.push(Arg::Num(Width::W32, 1))?;
-    items.push(Arg::Num(Width::W64, 2))?;
-    Ok(Arguments { items })
+",
+    ),
+    // A sum of 8 bits is computed with 32, and cast back.
+    (
+        b"(fun f () () u8 (add u8 (u8 255) (u8 1))) (entry f)",
+        b"uint8_t f_f(void);
+uint8_t f_f(void) {
+  return ((uint8_t)(((uint32_t)((uint8_t)((uint32_t)255u))) + ((uint32_t)((uint8_t)((uint32_t)1u)))));
 }
-
-/// The run of an entry of the file that a text spells, by the meaning of the source. None where it spells none.
-fn run_source(
-    alloc: Global,
-    text: &[u8],
-    entry: &[u8],
-    args: &Arguments,
-    bound: Bound,
-) -> Result<Option<SourceRun>, AllocError> {
-    let entry = Name::new(alloc, entry)?;
-    match read_file(alloc, text) {
-        Ok(file) => Ok(Some(evaluate_source(alloc, &file, &entry, args, bound)?)),
-        Err(_) => Ok(None),
+",
+    ),
+    // A shift has its amount as it is.
+    (
+        b"(fun f () ((x u32) (n u32)) u32 (shl u32 x n)) (entry f)",
+        b"uint32_t f_f(uint32_t v0_x, uint32_t v1_n);
+uint32_t f_f(uint32_t v0_x, uint32_t v1_n) {
+  return (v0_x << v1_n);
+}
+",
+    ),
+    // A variable that is not used is declared all the same.
+    (
+        b"(fun f () ((x u32)) u32 (do (let y u32 (add u32 x (u32 1))) x)) (entry f)",
+        b"uint32_t f_f(uint32_t v0_x);
+uint32_t f_f(uint32_t v0_x) {
+  uint32_t v1_y = (v0_x + ((uint32_t)1u));
+  return v0_x;
+}
+",
+    ),
+    // Masks have no branch.
+    (
+        b"(fun f () ((a u64) (b u64)) u64 (eqmask u64 a b)) (fun g () ((a u8) (b u8)) u8 (gtemask u8 a b))",
+        b"uint64_t f_f(uint64_t v0_a, uint64_t v1_b);
+uint8_t f_g(uint8_t v0_a, uint8_t v1_b);
+uint64_t f_f(uint64_t v0_a, uint64_t v1_b) {
+  uint64_t v2 = (v0_a ^ v1_b);
+  return (((v2 | (((uint64_t)0ull) - v2)) >> ((uint32_t)63u)) - ((uint64_t)1ull));
+}
+uint8_t f_g(uint8_t v0_a, uint8_t v1_b) {
+  uint32_t v2 = ((uint32_t)v0_a);
+  uint32_t v3 = ((uint32_t)v1_b);
+  return ((uint8_t)(((v2 ^ ((v2 ^ v3) | ((v2 - v3) ^ v3))) >> ((uint32_t)31u)) - ((uint32_t)1u)));
+}
+",
+    ),
+    // A quotient is a statement, a cast to the same C type is none, and a truth value is a number.
+    (
+        b"(fun f () ((a u8) (b u32)) bool (not (ge u32 (cast u32 u32 b) (cast u8 u32 (div u8 a (u8 2)))))) (fun g () () bool true)",
+        b"uint8_t f_f(uint8_t v0_a, uint32_t v1_b);
+uint8_t f_g(void);
+uint8_t f_f(uint8_t v0_a, uint32_t v1_b) {
+  uint32_t v2 = (((uint32_t)v0_a) / ((uint32_t)((uint8_t)((uint32_t)2u))));
+  return ((uint8_t)(((uint32_t)((uint8_t)(v1_b >= ((uint32_t)((uint8_t)v2))))) ^ ((uint32_t)1u)));
+}
+uint8_t f_g(void) {
+  return ((uint8_t)((uint32_t)1u));
+}
+",
+    ),
+    // Structs.
+    (
+        b"(struct p () (x u8) (y bool)) (fun f () ((a p)) p (make p () (get x a) (not (get y a))))",
+        b"struct s_p {
+  uint8_t m_x;
+  uint8_t m_y;
+};
+struct s_p f_f(struct s_p v0_a);
+struct s_p f_f(struct s_p v0_a) {
+  return ((struct s_p){v0_a.m_x, ((uint8_t)(((uint32_t)v0_a.m_y) ^ ((uint32_t)1u)))});
+}
+",
+    ),
+    // An `if` that gives nothing has no variable, and nothing behind `else` is not written.
+    (
+        b"(fun f () ((c bool)) unit (if c (call g () (u64 7)) unit)) (fun g () ((n u64)) unit unit)",
+        b"void f_f(uint8_t v0_c);
+void f_g(uint64_t v0_n);
+void f_f(uint8_t v0_c) {
+  if (v0_c) {
+    f_g(((uint64_t)7ull));
+  }
+}
+void f_g(uint64_t v0_n) {
+}
+",
+    ),
+    // Loops and calls.
+    (
+        b"(fun f () ((n u32)) u32 (do (for i (u32 1) n (call h () i)) (while (lt u32 (call k () n) (u32 3)) unit) (call k () n))) (fun h () ((i u32)) unit unit) (fun k () ((i u32)) u32 i) (entry f)",
+        b"uint32_t f_f(uint32_t v0_n);
+void f_h(uint32_t v0_i);
+uint32_t f_k(uint32_t v0_i);
+uint32_t f_f(uint32_t v0_n) {
+  uint32_t v1_i = ((uint32_t)1u);
+  uint32_t v2 = v0_n;
+  for (;;) {
+    if (((uint8_t)(v1_i < v2))) {
+      f_h(v1_i);
+      v1_i = (v1_i + ((uint32_t)1u));
+    } else {
+      break;
     }
-}
-
-/// Whether a run is done with a result and two conditions.
-fn is_done(run: &Option<SourceRun>, number: u64, first: bool, second: bool) -> bool {
-    let Some(run) = run else {
-        return false;
-    };
-    let done = matches!(&run.outcome, Outcome::Done { result: Some(n), .. } if *n == number);
-    match run.events.as_slice() {
-        [SourceEvent::If(a), SourceEvent::If(b)] => done && *a == first && *b == second,
-        _ => false,
+  }
+  for (;;) {
+    uint32_t v3 = f_k(v0_n);
+    if (((uint8_t)(v3 < ((uint32_t)3u)))) {
+    } else {
+      break;
     }
+  }
+  uint32_t v4 = f_k(v0_n);
+  return v4;
 }
-
-fn is_undefined(run: &Option<SourceRun>) -> bool {
-    let Some(run) = run else {
-        return false;
-    };
-    matches!(run.outcome, Outcome::Undefined) && run.events.as_slice().is_empty()
+void f_h(uint32_t v0_i) {
 }
-
-/// No call and no loop stands in these functions, so each bound is enough.
-const BOUNDS: [Bound; 2] = [Bound { ticks: 0, depth: 0 }, Bound { ticks: 7, depth: 3 }];
-
-const TWO_IFS: &[u8] = b"(fun f () ((x u32) (y u32)) u32
-  (add u32 (if (lt u32 x y) (add u32 x (u32 4294967295)) y) (if (lt u32 y x) (u32 10) (u32 20))))
-(entry f)";
+uint32_t f_k(uint32_t v0_i) {
+  return v0_i;
+}
+",
+    ),
+];
 
 #[test]
-fn runs_of_the_source(rt: HostRuntime) -> Result<(), Fail> {
+fn texts_in_c(rt: HostRuntime) -> Result<(), Fail> {
     let alloc = rt.alloc();
-    for bound in BOUNDS {
-        for (x, y, number, first, second) in [
-            (9, 10, 28, true, false),
-            (10, 10, 30, false, false),
-            (11, 10, 20, false, true),
-        ] {
-            let run = run_source(alloc, TWO_IFS, b"f", &two(alloc, x, y)?, bound)?;
-            assert!(rt; is_done(&run, number, first, second), "at {x} and {y}");
-        }
+    for (source, expected) in TEXTS {
+        let text = text_of(alloc, &[(b"#include <stdint.h>\n", 1), (expected, 1)])?;
+        let a = run(alloc, &["c"], source, 4096, [&[], &[], &[]])?;
+        assert_eq!(rt; a.status, 0);
+        assert_eq!(rt; a.out.bytes(), text.as_slice());
     }
-    Ok(())
-}
-
-#[test]
-fn undefined_runs_of_the_source(rt: HostRuntime) -> Result<(), Fail> {
-    let alloc = rt.alloc();
-    let texts: [(&[u8], &[u8]); 5] = [
-        (TWO_IFS, b"g"),
-        (b"(fun f () ((x u32)) u32 x) (entry f)", b"f"),
-        (b"(fun f () ((x u32) (y u8)) u32 x) (entry f)", b"f"),
-        (
-            b"(fun f () ((x u32) (y u32)) u32 (add u32 x (u8 1))) (entry f)",
-            b"f",
-        ),
-        (
-            b"(fun f () ((x u32) (y u32)) u32 (sub u32 x y)) (entry f)",
-            b"f",
-        ),
-    ];
-    for (text, entry) in texts {
-        let run = run_source(alloc, text, entry, &two(alloc, 1, 2)?, BOUNDS[1])?;
-        assert!(rt; is_undefined(&run));
-    }
-    let run = run_source(alloc, TWO_IFS, b"f", &wide(alloc)?, BOUNDS[1])?;
-    assert!(rt; is_undefined(&run));
     Ok(())
 }
