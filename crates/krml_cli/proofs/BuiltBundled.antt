@@ -14,13 +14,13 @@ use Rattle.krml_syntax.specs.declared.tree.Item.TheVariants as item
 use Rattle.krml_syntax.specs.declared.tree.Expr.{Expr, roll-Expr, map-Expr}
 use Rattle.krml_syntax.specs.declared.tree.Expr.TheVariants as e
 use Rattle.krml_syntax.specs.declared.tree.Expr.TheOpen.{Expr-F, Item-F, Arm-F, Case-F}
-use Rattle.krml_syntax.specs.declared.tree.Expr.TheFolds.{fold-Item, fold-Arm, fold-Case, fold_out-Expr, fold_out-Item, fold-roll-Expr, fold-roll-Item, ind-Expr, map-Item}
+use Rattle.krml_syntax.specs.declared.tree.Expr.TheFolds.{fold-Arm, fold-Case, fold_out-Expr, fold_out-Item, fold-roll-Expr, fold-roll-Item, ind-Expr, map-Item}
 use Rattle.krml_syntax.specs.declared.tree.Def.{Def}
 use Rattle.krml_syntax.specs.declared.tree.Def.TheVariants as d
 use Rattle.krml_meaning.proofs.Flat.{by_form}
 use Rattle.krml_meaning.proofs.Lists.{map_length}
 use Rattle.krml_bundle.specs.Emitted.{emitted_type}
-use Rattle.krml_bundle.specs.Bundled.{ty_bundled, level_ty, field_bundled, param_bundled, level_expr, level_item, level_arm, level_case, expr_bundled, def_bundled}
+use Rattle.krml_bundle.specs.Bundled.{ty_bundled, level_ty, field_bundled, param_bundled, level_expr, level_item, level_arm, level_case, expr_bundled, item_bundled, arm_bundled, case_bundled, def_bundled}
 use Rattle.krml_cstar.specs.Built.{all, is_empty, level_ty_built, is_ty_built, are_fields_built, level_built, level_item_built, level_arm_built, level_case_built, is_expr_built, is_item_built, is_built, AreBuilt}
 
 -- ---- types
@@ -54,15 +54,6 @@ params_same [] = refl
 params_same (p ∷ params) = rw (ty_same p.ty, params_same params) refl
 
 -- ---- expressions
-
-abbrev item_bundled : Item → Item
-item_bundled = fold-Item Expr Item Arm Case level_expr level_item level_arm level_case
-
-abbrev arm_bundled : Arm → Arm
-arm_bundled = fold-Arm Expr Item Arm Case level_expr level_item level_arm level_case
-
-abbrev case_bundled : Case → Case
-case_bundled = fold-Case Expr Item Arm Case level_expr level_item level_arm level_case
 
 abbrev is_arm_built : Arm → Bool
 is_arm_built = fold-Arm Bool Bool Bool Bool level_built level_item_built level_arm_built level_case_built
