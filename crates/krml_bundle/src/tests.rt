@@ -15,9 +15,15 @@ fn numbers_stand_before_names(rt: HostRuntime) -> Result<(), Fail> {
     assert!(rt; is_named(&emitted_fun(alloc, &plain)?, b"f_add"));
     assert!(rt; is_named(&emitted_fun(alloc, &numbered)?, b"g12_add"));
     assert!(rt; is_named(&emitted_fun(alloc, &quoted)?, b"f_add'"));
-    assert!(rt; is_named(&emitted_type(alloc, &plain)?, b"s_add"));
+    Ok(())
+}
+
+#[test]
+fn each_kind_has_its_prefix(rt: HostRuntime) -> Result<(), Fail> {
+    let alloc = rt.alloc();
+    let numbered = Name::new(alloc, b"add'12")?;
     assert!(rt; is_named(&emitted_type(alloc, &numbered)?, b"s12_add"));
-    assert!(rt; is_named(&emitted_table(alloc, &plain)?, b"t_add"));
-    assert!(rt; is_named(&emitted_field(alloc, &plain)?, b"m_add"));
+    assert!(rt; is_named(&emitted_table(alloc, &numbered)?, b"t_add'12"));
+    assert!(rt; is_named(&emitted_field(alloc, &numbered)?, b"m_add'12"));
     Ok(())
 }
