@@ -1,4 +1,3 @@
-pub mod Examples
 pub mod Firsts
 pub mod Labelled
 pub mod LabelledTypes

@@ -28,6 +28,3 @@ pub use names::Names;
 pub use run::SourceRun;
 pub use types::{clone_ty, name_of, type_at};
 pub use vars::Vars;
-
-#[cfg(test)]
-mod tests;

@@ -1,3 +1,4 @@
+mod Examples
 pub mod Form
 pub mod FormDefs
 pub mod FormExprs

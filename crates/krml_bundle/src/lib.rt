@@ -9,6 +9,3 @@ mod patterns;
 mod types;
 
 pub use pass::bundle;
-
-#[cfg(test)]
-mod tests;

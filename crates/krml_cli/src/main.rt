@@ -12,8 +12,6 @@ mod refusal;
 mod stop;
 #[cfg(test)]
 mod tests;
-#[cfg(test)]
-mod typing_tests;
 
 use krml::krml;
 use krml_trace::{RealSink, RealSource};

@@ -298,7 +298,7 @@ fn cut_at_every_byte(rt: HostRuntime) -> Result<(), Fail> {
 }
 
 /// Texts, and what `c` writes for them behind the first line.
-const TEXTS: [(&[u8], &[u8]); 10] = [
+const TEXTS: [(&[u8], &[u8]); 13] = [
     // The empty text.
     (b";", b""),
     // A table is a constant array.
@@ -368,6 +368,42 @@ uint8_t f_f(uint8_t v0_a, uint32_t v1_b) {
 uint8_t f_g(void) {
   return ((uint8_t)((uint32_t)1u));
 }
+",
+    ),
+    // Each operator has its symbol.
+    (
+        b"(fun f () ((x u32) (y u32)) u32 (mul u32 (sub u32 x y) (or u32 (and u32 x y) (xor u32 x y)))) (fun g () ((x u64) (n u32)) u64 (shr u64 (rem u64 x (u64 10)) n))",
+        b"uint32_t f_f(uint32_t v0_x, uint32_t v1_y);
+uint64_t f_g(uint64_t v0_x, uint32_t v1_n);
+uint32_t f_f(uint32_t v0_x, uint32_t v1_y) {
+  return ((v0_x - v1_y) * ((v0_x & v1_y) | (v0_x ^ v1_y)));
+}
+uint64_t f_g(uint64_t v0_x, uint32_t v1_n) {
+  uint64_t v2 = (v0_x % ((uint64_t)10ull));
+  return (v2 >> v1_n);
+}
+",
+    ),
+    // So has each comparison.
+    (
+        b"(struct p () (a bool) (b bool) (c bool) (d bool)) (fun f () ((x u32) (y u32)) p (make p () (eq u32 x y) (ne u32 x y) (le u32 x y) (gt u32 x y)))",
+        b"struct s_p {
+  uint8_t m_a;
+  uint8_t m_b;
+  uint8_t m_c;
+  uint8_t m_d;
+};
+struct s_p f_f(uint32_t v0_x, uint32_t v1_y);
+struct s_p f_f(uint32_t v0_x, uint32_t v1_y) {
+  return ((struct s_p){((uint8_t)(v0_x == v1_y)), ((uint8_t)(v0_x != v1_y)), ((uint8_t)(v0_x <= v1_y)), ((uint8_t)(v0_x > v1_y))});
+}
+",
+    ),
+    // Numbers of a table have the suffix of their width.
+    (
+        b"(table t u8 255 0) (table s u64 18446744073709551615)",
+        b"static const uint8_t t_t[2] = {255u, 0u};
+static const uint64_t t_s[1] = {18446744073709551615ull};
 ",
     ),
     // Structs.

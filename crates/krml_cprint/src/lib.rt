@@ -11,6 +11,3 @@ mod types;
 mod words;
 
 pub use program::print_c;
-
-#[cfg(test)]
-mod tests;

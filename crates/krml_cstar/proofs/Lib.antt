@@ -7,6 +7,7 @@ pub mod Choices
 pub mod Codes
 pub mod Emits
 pub mod Events
+mod Examples
 pub mod Fits
 pub mod Forms
 pub mod Found

@@ -136,12 +136,12 @@ module _ (defs : List Def) (p : CProgram) (calls : tgt.Calls) where
             let g = h.grows names n in
             let s3 : SourceState = leave (event.Turn true) s2 in
             let stand = stands_on defs vars names n m late late2 env s1 s3 (stands_between u late s1 kept between) g h2.keeps h2.below f2.extends f2.memory in
-            let R1 : Value → Locals → Type 0 = λ y end. Keeps m late2 end in
-            sim_bind_after (the_image defs) (Fine defs s3.memory t.Unit) R1 (BothTurned (the_image defs) Between while_good) (ev' env s3) (tgt.braces body_steps late2 (state_image defs s3))
+            let AfterBody : Value → Locals → Type 0 = λ y end. Keeps m late2 end in
+            sim_bind_after (the_image defs) (Fine defs s3.memory t.Unit) AfterBody (BothTurned (the_image defs) Between while_good) (ev' env s3) (tgt.braces body_steps late2 (state_image defs s3))
             (λ y s. Goes (Again tt) s) (λ end s. Goes (Again (close late end)) s) (h'.sound.run env s3 stand.ready stand.memory)
-            (sim_more_after (the_image defs) (Fine defs s3.memory t.Unit) (Good defs p calls m late2 o'.value o'.next t.Unit) R1 (ev' env s3) (exec defs p calls o'.code late2 (state_image defs s3))
+            (sim_more_after (the_image defs) (Fine defs s3.memory t.Unit) (Good defs p calls m late2 o'.value o'.next t.Unit) AfterBody (ev' env s3) (exec defs p calls o'.code late2 (state_image defs s3))
             (λ end s. Goes (close late2 end) s) (h'.sound.run env s3 stand.ready stand.memory) (h'.sim env names m late2 s3 small stand) (λ y end s4 f4 h4.
-            goes (the_image defs) R1 y (close late2 end) s4 (keeps_close m late2 end h4.keeps)))
+            goes (the_image defs) AfterBody y (close late2 end) s4 (keeps_close m late2 end h4.keeps)))
             (λ y end s4 f4 k4.
             let kept : Keeps n late end = keeps_then n m late late2 end g h2.keeps k4 in
             goes (the_image defs) (BothTurned (the_image defs) Between while_good) (Again tt) (Again (close late end)) s4 (record {
@@ -307,13 +307,13 @@ module _ (defs : List Def) (typed : AreWellTyped defs) (built : AreBuilt defs) (
             let stand = stands_inside j there s2 k2 a in
             let qy = number_counter in
             let qz = number_bound in
-            let R1 : Value → Locals → Type 0 = λ w after. (inside : Locals) × Keeps (i + 2) there inside × (after ≡ close there (set y (cv.Num W32 (suc j)) inside)) in
-            sim_bind_after (the_image defs) (Fine defs s2.memory t.Unit) R1 (BothTurned (the_image defs) AtTurn for_good) (ev'' inner s2)
+            let AfterBody : Value → Locals → Type 0 = λ w after. (inside : Locals) × Keeps (i + 2) there inside × (after ≡ close there (set y (cv.Num W32 (suc j)) inside)) in
+            sim_bind_after (the_image defs) (Fine defs s2.memory t.Unit) AfterBody (BothTurned (the_image defs) AtTurn for_good) (ev'' inner s2)
             (tgt.braces (map (tgt.do_one p calls) (body_of names i)) there (state_image defs s2)) (λ y s. Goes (Again (suc j)) s) (λ now s. Goes (Again (close there now)) s)
             (h''.sound.run inner s2 stand.ready stand.memory)
-            (sim_more_after (the_image defs) (Fine defs s2.memory t.Unit) (Stepped j there) R1 (ev'' inner s2) (exec defs p calls (body_of names i) there (state_image defs s2))
+            (sim_more_after (the_image defs) (Fine defs s2.memory t.Unit) (Stepped j there) AfterBody (ev'' inner s2) (exec defs p calls (body_of names i) there (state_image defs s2))
             (λ now s. Goes (close there now) s) (h''.sound.run inner s2 stand.ready stand.memory) (body_runs j there s2 k2 a fits) (λ w stepped s3 f3 h3.
-            goes (the_image defs) R1 w (close there stepped) s3 (h3.inside, h3.keeps, ap (close there) h3.is)))
+            goes (the_image defs) AfterBody w (close there stepped) s3 (h3.inside, h3.keeps, ap (close there) h3.is)))
             (λ w after s3 f3 h3.
             let u = cv.Num W32 (suc j) in
             let inside = h3.0 in

@@ -9,6 +9,3 @@ mod scope;
 mod types;
 
 pub use program::to_cstar;
-
-#[cfg(test)]
-mod tests;

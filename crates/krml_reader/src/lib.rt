@@ -17,6 +17,3 @@ pub use krml_writer::write_file;
 pub use read::{one_answer, one_definition, one_file, read_file};
 pub use refusal::ReadRefusal;
 pub use written::written_is_read;
-
-#[cfg(test)]
-mod tests;

@@ -20,6 +20,3 @@ mod untyped;
 pub use check::check_types;
 pub use refusal::TypeRefusal;
 pub use typed_file::TypedFile;
-
-#[cfg(test)]
-mod tests;

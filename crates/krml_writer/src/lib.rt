@@ -10,6 +10,3 @@ mod write;
 
 pub use laws::written_again;
 pub use write::write_file;
-
-#[cfg(test)]
-mod tests;

@@ -1,8 +1,9 @@
+//! The labelled types of expressions.
+
 ghost use Rattle.std.specs.Prelude.{◌≡◌, IfOk};
 ghost use Rattle.krml_syntax.specs.declared.tree.Ty.TheVariants.{Int};
 
-use crate::labels::type_of;
-use krml_syntax::{Expr, Field, IntTy, SourceFile, Ty};
+use krml_ast::{Expr, Field, IntTy, SourceFile, Ty, type_of};
 use krml_trace::{Box, Name, NoMemory, Seq, Width};
 use std::alloc::Global;
 use std::test::Fail;
@@ -33,11 +34,10 @@ fn gives_the_secret_type(rt: HostRuntime) -> Result<(), Fail> {
     let alloc = rt.alloc();
     let defs = Seq::new(alloc);
     let file = SourceFile { defs };
-    let mut scope = Seq::new(alloc);
-    scope.push(field(alloc, b"x", WORD)?)?;
+    let scope = [field(alloc, b"x", WORD)?];
     let x = Name::new(alloc, b"x")?;
     let e = Expr::Hide(WORD, Box::new(alloc, Expr::Var(x))?);
-    let ty = type_of(alloc, &file, scope.as_slice(), &e)?;
+    let ty = type_of(alloc, &file, &scope, &e)?;
     assert!(rt; matches!(ty, Ty::Int(SECRET)));
     Ok(())
 }
@@ -47,11 +47,9 @@ fn the_last_field_counts(rt: HostRuntime) -> Result<(), Fail> {
     let alloc = rt.alloc();
     let defs = Seq::new(alloc);
     let file = SourceFile { defs };
-    let mut scope = Seq::new(alloc);
-    scope.push(field(alloc, b"x", WORD)?)?;
-    scope.push(field(alloc, b"x", SECRET)?)?;
+    let scope = [field(alloc, b"x", WORD)?, field(alloc, b"x", SECRET)?];
     let e = Expr::Var(Name::new(alloc, b"x")?);
-    let ty = type_of(alloc, &file, scope.as_slice(), &e)?;
+    let ty = type_of(alloc, &file, &scope, &e)?;
     assert!(rt; matches!(ty, Ty::Int(SECRET)));
     Ok(())
 }

@@ -1,8 +1,8 @@
 use Rattle.std.proofs.Common.{rules, ◌≡◌, false, [], ◌∷◌}
 use Rattle.krml_trace.specs.declared.width.Width.TheVariants.{W32}
 use Rattle.krml_syntax.specs.declared.tree.Expr.TheVariants as e
-use Rattle.krml_ast.proofs.Examples.{int_field, hidden_typed}
-use Rattle.krml_ast.proofs.tests.gives_the_secret_type.Goals as goal
+use Rattle.krml_tests.proofs.Typed.{int_field, hidden_typed}
+use Rattle.krml_tests.proofs.labels.gives_the_secret_type.Goals as goal
 
 pub type_of-requires : goal.type_of-requires
 type_of-requires g c =

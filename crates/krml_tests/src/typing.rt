@@ -6,7 +6,18 @@ use std::alloc::{AllocError, Global};
 use std::test::Fail;
 
 /// Rules of definitions: a text that keeps the rule, one that breaks it, and the number of the definition at fault.
-const DEFINITIONS: &str = "Structs and sums have names of one kind.
+const DEFINITIONS: &str =
+    "An entry may stand before its function, and the first definition at fault is told.
+(entry f) (fun f () () bool true)
+(fun f () () bool true) (fun g () () bool unit) (fun f () () bool true)
+1
+
+Structs in a circle.
+(fun f () () bool true) (struct a () (next u8)) (struct b () (next a))
+(fun f () () bool true) (struct a () (next b)) (struct b () (next a))
+1
+
+Structs and sums have names of one kind.
 (struct s () (x u8)) (sum r () (A))
 (struct s () (x u8)) (sum s () (A))
 1

@@ -1,7 +1,7 @@
 use Rattle.std.proofs.Common.{rules, ◌≡◌, true, false, [], ◌∷◌}
 use Rattle.krml_trace.specs.declared.width.Width.TheVariants.{W32}
-use Rattle.krml_ast.proofs.Examples.{int_field, last_typed}
-use Rattle.krml_ast.proofs.tests.the_last_field_counts.Goals as goal
+use Rattle.krml_tests.proofs.Typed.{int_field, last_typed}
+use Rattle.krml_tests.proofs.labels.the_last_field_counts.Goals as goal
 
 pub type_of-requires : goal.type_of-requires
 type_of-requires g c =

@@ -1,8 +1,8 @@
-use crate::read::read_file;
-use crate::refusal::ReadRefusal;
+//! What texts are read as, and written back as.
+
+use krml_reader::{ReadRefusal, read_file, write_file};
 use krml_syntax::{Def, LimitKind, SourceFile};
 use krml_trace::NoMemory;
-use krml_writer::write_file;
 use std::alloc::Global;
 use std::test::Fail;
 
@@ -665,11 +665,20 @@ fn rewritten(alloc: Global, text: &[u8]) -> Result<Vec<u8>, NoMemory> {
     }
 }
 
+/// A definition of each kind, as they are written.
+const WRITTEN: &[u8] = b"(struct p ('a) (x 'a) (y (buf u8)))
+(sum o () (none) (some bool (p unit)))
+(table t su32 0 4294967295)
+(fun f () ((x su32)) unit (do (let y u8 (sub u8 z (u8 7))) (match x ((con some _ (u8 7)) (call g (u8) z)))))
+(entry f)
+";
+
 #[test]
 fn writes_what_it_read(rt: HostRuntime) -> Result<(), Fail> {
     let alloc = rt.alloc();
-    let cases: [(&[u8], &[u8]); 9] = [
+    let cases: [(&[u8], &[u8]); 10] = [
         (b"", b""),
+        (WRITTEN, WRITTEN),
         (b"\t( entry\nf ) ; end", b"(entry f)\n"),
         (
             b"(struct S('a)(f u8)(g(buf(S(S 'a)))))",
