@@ -34,10 +34,11 @@ fn gives_the_secret_type(rt: HostRuntime) -> Result<(), Fail> {
     let alloc = rt.alloc();
     let defs = Seq::new(alloc);
     let file = SourceFile { defs };
-    let scope = [field(alloc, b"x", WORD)?];
+    let mut scope = Seq::new(alloc);
+    scope.push(field(alloc, b"x", WORD)?)?;
     let x = Name::new(alloc, b"x")?;
     let e = Expr::Hide(WORD, Box::new(alloc, Expr::Var(x))?);
-    let ty = type_of(alloc, &file, &scope, &e)?;
+    let ty = type_of(alloc, &file, scope.as_slice(), &e)?;
     assert!(rt; matches!(ty, Ty::Int(SECRET)));
     Ok(())
 }
@@ -47,9 +48,11 @@ fn the_last_field_counts(rt: HostRuntime) -> Result<(), Fail> {
     let alloc = rt.alloc();
     let defs = Seq::new(alloc);
     let file = SourceFile { defs };
-    let scope = [field(alloc, b"x", WORD)?, field(alloc, b"x", SECRET)?];
+    let mut scope = Seq::new(alloc);
+    scope.push(field(alloc, b"x", WORD)?)?;
+    scope.push(field(alloc, b"x", SECRET)?)?;
     let e = Expr::Var(Name::new(alloc, b"x")?);
-    let ty = type_of(alloc, &file, &scope, &e)?;
+    let ty = type_of(alloc, &file, scope.as_slice(), &e)?;
     assert!(rt; matches!(ty, Ty::Int(SECRET)));
     Ok(())
 }
