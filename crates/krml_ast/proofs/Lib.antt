@@ -1,3 +1,4 @@
+pub mod Earlier
 pub mod Firsts
 pub mod Labelled
 pub mod LabelledTypes

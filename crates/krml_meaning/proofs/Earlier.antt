@@ -1,17 +1,14 @@
--- Types of a file's first definitions, whose own types are well formed, are so in the whole file, and hold buffers as there.
-use Rattle.std.proofs.Common.{◌≡◌, ℕ, Bool, true, false, if◌then◌else◌, List, [], ◌∷◌, ◌++◌, Some, ◌⊎◌, inl, inr, ap, ◌∙◌, subst}
+-- Structs and sums of a file's first definitions, whose own types are well formed, are so in the whole file.
+use Rattle.std.proofs.Common.{◌≡◌, ℕ, List, [], ◌++◌, Some}
 use Rattle.std.specs.List.{AllByRecursion}
-use Rattle.std.specs.Str.{bytes_eq}
-use Rattle.krml_syntax.specs.declared.tree.Ty.{Ty, out-Ty}
-use Rattle.krml_syntax.specs.declared.tree.Ty.TheOpen.{Ty-F}
-use Rattle.krml_syntax.specs.declared.tree.Ty.TheVariants as t
+use Rattle.krml_syntax.specs.declared.tree.Ty.{Ty}
 use Rattle.krml_syntax.specs.declared.tree.Field.{Field}
 use Rattle.krml_syntax.specs.declared.tree.Con.{Con}
 use Rattle.krml_syntax.specs.declared.tree.Def.{Def}
-use Rattle.krml_syntax.specs.declared.tree.Def.TheVariants as d
-use Rattle.krml_ast.specs.Names.{Composite, Struct, Sum, type_named}
-use Rattle.krml_ast.specs.IsType.{HoldsBuffer, IsFlat, IsType, AreArguments}
-use Rattle.krml_meaning.proofs.Lists.{same_answer, each_contains, each_so}
+use Rattle.krml_ast.specs.Names.{Struct, Sum, type_named}
+use Rattle.krml_ast.specs.IsType.{IsFlat, IsType}
+use Rattle.krml_ast.proofs.Earlier as earlier
+use Rattle.krml_meaning.proofs.Lists.{each_contains, each_so}
 
 -- the types in these structs and sums are well formed, those in sums flat
 pub record Settled (defs : List Def) : Type 0 where
@@ -22,91 +19,15 @@ pub record Settled (defs : List Def) : Type 0 where
 pub none_settled : Settled []
 none_settled = record { fields = λ x vars fields is. absurd (cc); cons = λ x vars cons is. absurd (cc) }
 
--- ---- names
-
-pub named_more : (before after : List Def) (x : List ℕ) (c : Composite) → type_named before x ≡ Some c → type_named (before ++ after) x ≡ Some c
-named_more [] after x c is = absurd (cc)
-named_more (d.Struct name vars fields ∷ before) after x c is = go (bytes_eq name x) is (named_more before after x c)
-  where
-    go : (b : Bool) → (if b then Some (Struct vars fields) else type_named before x) ≡ Some c
-        → (type_named before x ≡ Some c → type_named (before ++ after) x ≡ Some c) → (if b then Some (Struct vars fields) else type_named (before ++ after) x) ≡ Some c
-    go true k later = k
-    go false k later = later k
-named_more (d.Sum name vars cons ∷ before) after x c is = go (bytes_eq name x) is (named_more before after x c)
-  where
-    go : (b : Bool) → (if b then Some (Sum vars cons) else type_named before x) ≡ Some c
-        → (type_named before x ≡ Some c → type_named (before ++ after) x ≡ Some c) → (if b then Some (Sum vars cons) else type_named (before ++ after) x) ≡ Some c
-    go true k later = k
-    go false k later = later k
-named_more (d.Table name ty nums ∷ before) after x c is = named_more before after x c is
-named_more (d.Fun name vars params result body ∷ before) after x c is = named_more before after x c is
-named_more (d.Entry name ∷ before) after x c is = named_more before after x c is
-
--- a name means something earlier, or the last definition, which is where it means nothing earlier
-pub named_last : (before : List Def) (def : Def) (x : List ℕ) (c : Composite) → type_named (before ++ def ∷ []) x ≡ Some c
-    → (type_named before x ≡ Some c) ⊎ (type_named (def ∷ []) x ≡ Some c)
-named_last [] def x c is = inr is
-named_last (d.Struct name vars fields ∷ before) def x c is = go (bytes_eq name x) is (named_last before def x c)
-  where
-    go : (b : Bool) → (if b then Some (Struct vars fields) else type_named (before ++ def ∷ []) x) ≡ Some c
-        → (type_named (before ++ def ∷ []) x ≡ Some c → (type_named before x ≡ Some c) ⊎ (type_named (def ∷ []) x ≡ Some c))
-        → ((if b then Some (Struct vars fields) else type_named before x) ≡ Some c) ⊎ (type_named (def ∷ []) x ≡ Some c)
-    go true k later = inl k
-    go false k later = later k
-named_last (d.Sum name vars cons ∷ before) def x c is = go (bytes_eq name x) is (named_last before def x c)
-  where
-    go : (b : Bool) → (if b then Some (Sum vars cons) else type_named (before ++ def ∷ []) x) ≡ Some c
-        → (type_named (before ++ def ∷ []) x ≡ Some c → (type_named before x ≡ Some c) ⊎ (type_named (def ∷ []) x ≡ Some c))
-        → ((if b then Some (Sum vars cons) else type_named before x) ≡ Some c) ⊎ (type_named (def ∷ []) x ≡ Some c)
-    go true k later = inl k
-    go false k later = later k
-named_last (d.Table name ty nums ∷ before) def x c is = named_last before def x c is
-named_last (d.Fun name vars params result body ∷ before) def x c is = named_last before def x c is
-named_last (d.Entry name ∷ before) def x c is = named_last before def x c is
-
--- ---- the parts of a well formed type
-
-abbrev IsKnown : List Def → Ty-F Ty → Type 0
-IsKnown defs (Ty-F.Named x args) = (c : Composite) × (type_named defs x ≡ Some c)
-IsKnown defs _ = Unit {0}
-
-is_known : (defs : List Def) (vars : List (List ℕ)) (a : Ty) → IsType defs vars a → IsKnown defs (out-Ty a)
-is_known defs vars a IsType.bool = rw t.outs-Bool tt
-is_known defs vars a IsType.unit = rw t.outs-Unit tt
-is_known defs vars a (IsType.int i) = rw t.outs-Int tt
-is_known defs vars a (IsType.buf b is f) = rw t.outs-Buf tt
-is_known defs vars a (IsType.var h) = rw t.outs-Var tt
-is_known defs vars a (IsType.named {c = c} is n ok) = rw t.outs-Named (c, is)
-
-pub named_known : (defs : List Def) (vars : List (List ℕ)) (x : List ℕ) (args : List Ty) → IsType defs vars (t.Named x args) → (c : Composite) × (type_named defs x ≡ Some c)
-named_known defs vars x args ok = subst (IsKnown defs) (t.outs-Named x args) (is_known defs vars (t.Named x args) ok)
+structs_settled : (defs : List Def) → Settled defs → earlier.Settled defs
+structs_settled defs s = record { fields = λ x vars fields f is has. each_contains (λ g. IsType defs vars g.ty) fields f (s.fields x vars fields is) has }
 
 module _ (before after : List Def) (s : Settled before) where
-  holds_less : (a : Ty) (tvars : List (List ℕ)) → IsType before tvars a → HoldsBuffer (before ++ after) a → HoldsBuffer before a
-  holds_less a tvars ok (HoldsBuffer.buffer b) = HoldsBuffer.buffer b
-  holds_less a tvars ok (HoldsBuffer.field {x = x} args {vars = vars} {fields = fields} {f = f} is has h) =
-      let k = named_known before tvars x args ok in
-      let same : k.0 ≡ Struct vars fields = same_answer (type_named (before ++ after) x) k.0 (Struct vars fields) (named_more before after x k.0 k.1) is in
-      let here : type_named before x ≡ Some (Struct vars fields) = k.1 ∙ ap Some same in
-      let ok' : IsType before vars f.ty = each_contains (λ g. IsType before vars g.ty) fields f (s.fields x vars fields here) has in
-      HoldsBuffer.field args here has (holds_less f.ty vars ok' h)
+  type_more : (a : Ty) (tvars : List (List ℕ)) → IsType before tvars a → IsType (before ++ after) tvars a
+  type_more = earlier.type_more before after (structs_settled before s)
 
   pub flat_more : (a : Ty) (tvars : List (List ℕ)) → IsType before tvars a → IsFlat before a → IsFlat (before ++ after) a
-  flat_more a tvars ok f = record { value = f.value; flat = λ h. f.flat (holds_less a tvars ok h) }
-
-  mutual
-    pub type_more : (a : Ty) (tvars : List (List ℕ)) → IsType before tvars a → IsType (before ++ after) tvars a
-    type_more a tvars IsType.bool = IsType.bool
-    type_more a tvars IsType.unit = IsType.unit
-    type_more a tvars (IsType.int i) = IsType.int i
-    type_more a tvars (IsType.buf b ok f) = IsType.buf b (type_more b tvars ok) (flat_more b tvars ok f)
-    type_more a tvars (IsType.var h) = IsType.var h
-    type_more a tvars (IsType.named {x = x} {c = c} {args = args} is n oks) = IsType.named (named_more before after x c is) n (arguments_more args tvars oks)
-
-    arguments_more : (args : List Ty) (tvars : List (List ℕ)) → AreArguments before tvars args → AreArguments (before ++ after) tvars args
-    arguments_more args tvars AreArguments.none = AreArguments.none
-    arguments_more args tvars (AreArguments.one {a = a} {args = more} ok f oks) =
-        AreArguments.one (type_more a tvars ok) (flat_more a tvars ok f) (arguments_more more tvars oks)
+  flat_more = earlier.flat_more before after (structs_settled before s)
 
   pub fields_more : (vars : List (List ℕ)) (fields : List Field) → AllByRecursion (λ f. IsType before vars f.ty) fields → AllByRecursion (λ f. IsType (before ++ after) vars f.ty) fields
   fields_more vars fields h = each_so (λ f. IsType before vars f.ty) (λ f. IsType (before ++ after) vars f.ty) fields (λ f ok. type_more f.ty vars ok) h

@@ -15,9 +15,10 @@ use Rattle.krml_ast.specs.Names.{Struct, Sum, Constructor, Signature, con_in, co
 use Rattle.krml_ast.specs.IsType.{erased, IsValue, IsFlat, IsType}
 use Rattle.krml_ast.specs.Typing.{IsResult, HasType}
 use Rattle.krml_ast.specs.WellTyped.{type_name, names_of, WellTyped, AreWellTyped}
+use Rattle.krml_ast.proofs.Earlier.{named_more, named_last}
 use Rattle.krml_meaning.specs.Meaning.{Function, Table, place_in, place_or, con_place, table_from, function_named}
 use Rattle.krml_meaning.proofs.Lists.{same_some, no_some, each_get, each_so}
-use Rattle.krml_meaning.proofs.Earlier.{Settled, none_settled, named_more, named_last, fields_more, cons_more}
+use Rattle.krml_meaning.proofs.Earlier.{Settled, none_settled, fields_more, cons_more}
 use Rattle.krml_meaning.proofs.Facts.{InSum, IsFunction, Facts, same_struct, same_sum}
 use Rattle.krml_meaning.proofs.Types.{name_same}
 

@@ -15,13 +15,14 @@ use Rattle.krml_ast.specs.IsType.{erased, type_at, HoldsBuffer, IsFlat, IsType, 
 use Rattle.krml_ast.specs.Typing.{at, fields_at}
 use Rattle.krml_ast.specs.WellTyped.{names_of, WellTyped, AreWellTyped}
 use Rattle.krml_ast.specs.FileTypes.{HasSize, listed_vars}
+use Rattle.krml_ast.proofs.Earlier.{named_more, named_last}
 use Rattle.krml_meaning.specs.declared.value.Value.{Value}
 use Rattle.krml_meaning.specs.declared.value.Value.TheVariants as v
 use Rattle.krml_meaning.specs.Meaning.{all_some, zero_of, zero_in, zero_within}
 use Rattle.krml_meaning.specs.Shape.{HasShape, AllHaveShape}
 use Rattle.krml_meaning.proofs.Lists.{same_some, no_some, each_so, each_among, each_contains}
 use Rattle.krml_meaning.proofs.Types.{erased_bool, erased_unit, erased_int, erased_named, at_none}
-use Rattle.krml_meaning.proofs.Earlier.{Settled, none_settled, named_more, named_last, flat_more}
+use Rattle.krml_meaning.proofs.Earlier.{Settled, none_settled, flat_more}
 use Rattle.krml_meaning.proofs.Files.{through, new_fields, new_cons, settled_more}
 use Rattle.krml_meaning.proofs.Proper.{HasZero}
 

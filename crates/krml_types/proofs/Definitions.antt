@@ -26,11 +26,12 @@ use Rattle.krml_types.specs.Types.{is_flat, is_type_by, are_arguments_by}
 use Rattle.krml_types.specs.Parts.{is_value}
 use Rattle.krml_types.specs.Expressions.{is_result, type_of}
 use Rattle.krml_ast.specs.Places.{is_among, cons_of, names_in}
+use Rattle.krml_ast.proofs.Earlier.{Settled}
 use Rattle.krml_types.specs.Definitions.{is_fresh, distinct_names, is_given, is_new, all_new, are_fields, are_cons, all_fit, body_scope, is_of, is_body, is_int_in, is_outside_in, are_outside, is_answer_in, no_vars, is_entry, fun_ok, well_typed}
 use Rattle.krml_types.proofs.Parts.{value_is, value_again, below, below_again}
 use Rattle.krml_types.proofs.Decided.{same_decides, flat_decides, type_by_decides, among_decides_name, known}
 use Rattle.krml_types.proofs.Expressions.{type_only, type_again}
-use Rattle.krml_types.proofs.Earlier.{Settled, among_decides, among_flat}
+use Rattle.krml_types.proofs.Earlier.{among_decides, among_flat}
 
 -- ---- tests and what they decide
 

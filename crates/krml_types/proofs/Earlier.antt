@@ -1,135 +1,28 @@
--- Types of a file's first definitions, whose own types are well formed, hold buffers as they do in the whole file.
-use Rattle.std.proofs.Common.{◌≡◌, ℕ, Bool, true, false, if◌then◌else◌, List, [], ◌∷◌, ◌++◌, Option, Some, ◌⊎◌, inl, inr, sym, ap, ◌∙◌, subst}
+-- Whether a type is well formed, and holds a buffer, is decided among a file's first definitions as in the whole file.
+use Rattle.std.proofs.Common.{◌≡◌, ℕ, List, ◌++◌, sym, subst}
 use Rattle.std.specs.Bool.{Decides}
-use Rattle.std.specs.List.{Contains}
-use Rattle.std.specs.Str.{bytes_eq}
 use Rattle.std.proofs.lemmas.Bool.Decides.{same_from_decides}
-use Rattle.krml_syntax.specs.declared.tree.Ty.{Ty, out-Ty}
-use Rattle.krml_syntax.specs.declared.tree.Ty.TheOpen.{Ty-F}
-use Rattle.krml_syntax.specs.declared.tree.Ty.TheVariants as t
-use Rattle.krml_syntax.specs.declared.tree.Field.{Field}
+use Rattle.krml_syntax.specs.declared.tree.Ty.{Ty}
 use Rattle.krml_syntax.specs.declared.tree.Def.{Def}
-use Rattle.krml_syntax.specs.declared.tree.Def.TheVariants as d
-use Rattle.krml_ast.specs.Names.{Composite, Struct, Sum, type_named}
-use Rattle.krml_ast.specs.IsType.{HoldsBuffer, IsFlat, IsType, AreArguments}
+use Rattle.krml_ast.specs.Names.{type_named}
+use Rattle.krml_ast.specs.IsType.{IsFlat, IsType}
+use Rattle.krml_ast.proofs.Earlier.{Settled, flat_less, flat_more}
 use Rattle.krml_types.specs.Types.{is_flat, is_type_by}
 use Rattle.krml_types.proofs.Decided.{flat_decides, type_by_decides, types_same}
 
--- the fields of the structs of these have well formed types
-pub record Settled (defs : List Def) : Type 0 where
-  pub fields : (x : List ℕ) (vars : List (List ℕ)) (fields : List Field) (f : Field) → type_named defs x ≡ Some (Struct vars fields) → Contains fields f → IsType defs vars f.ty
+module _ (before after : List Def) (s : Settled before) where
+  flat_same : (a : Ty) (tvars : List (List ℕ)) → IsType before tvars a → is_flat (before ++ after) a ≡ is_flat before a
+  flat_same a tvars ok =
+      let all = flat_decides (before ++ after) a in
+      let now = flat_decides before a in
+      let both : Decides (is_flat before a) (IsFlat (before ++ after) a) = ((λ e. flat_more before after s a tvars ok (now.0 e)), (λ f. now.1 (flat_less before after a f))) in
+      same_from_decides (is_flat (before ++ after) a) (is_flat before a) all both
 
-pub none_settled : Settled []
-none_settled = record { fields = λ x vars fields f is has. absurd (cc) }
+  -- well formed among the first definitions, with buffers held as in the whole file
+  pub among_decides : (tvars : List (List ℕ)) (a : Ty) → Decides (is_type_by (type_named before) (is_flat (before ++ after)) tvars a) (IsType before tvars a)
+  among_decides tvars a =
+      let same = types_same (type_named before) (is_flat (before ++ after)) (is_flat before) tvars (λ b e. flat_same b tvars ((type_by_decides before tvars b).0 e)) a in
+      subst (λ b. Decides b (IsType before tvars a)) (sym same) (type_by_decides before tvars a)
 
--- ---- names
-
-named_more : (before after : List Def) (x : List ℕ) (c : Composite) → type_named before x ≡ Some c → type_named (before ++ after) x ≡ Some c
-named_more [] after x c is = absurd (cc)
-named_more (d.Struct name vars fields ∷ before) after x c is = go (bytes_eq name x) is (named_more before after x c)
-  where
-    go : (b : Bool) → (if b then Some (Struct vars fields) else type_named before x) ≡ Some c
-        → (type_named before x ≡ Some c → type_named (before ++ after) x ≡ Some c) → (if b then Some (Struct vars fields) else type_named (before ++ after) x) ≡ Some c
-    go true k later = k
-    go false k later = later k
-named_more (d.Sum name vars cons ∷ before) after x c is = go (bytes_eq name x) is (named_more before after x c)
-  where
-    go : (b : Bool) → (if b then Some (Sum vars cons) else type_named before x) ≡ Some c
-        → (type_named before x ≡ Some c → type_named (before ++ after) x ≡ Some c) → (if b then Some (Sum vars cons) else type_named (before ++ after) x) ≡ Some c
-    go true k later = k
-    go false k later = later k
-named_more (d.Table name ty nums ∷ before) after x c is = named_more before after x c is
-named_more (d.Fun name vars params result body ∷ before) after x c is = named_more before after x c is
-named_more (d.Entry name ∷ before) after x c is = named_more before after x c is
-
--- a name means something earlier, or the last definition
-abbrev pub Last : Def → List ℕ → Composite → Type 0
-Last def x c = type_named (def ∷ []) x ≡ Some c
-
-pub named_last : (before : List Def) (def : Def) (x : List ℕ) (c : Composite) → type_named (before ++ def ∷ []) x ≡ Some c → (type_named before x ≡ Some c) ⊎ Last def x c
-named_last [] def x c is = inr is
-named_last (d.Struct name vars fields ∷ before) def x c is = go (bytes_eq name x) is (named_last before def x c)
-  where
-    go : (b : Bool) → (if b then Some (Struct vars fields) else type_named (before ++ def ∷ []) x) ≡ Some c
-        → (type_named (before ++ def ∷ []) x ≡ Some c → (type_named before x ≡ Some c) ⊎ Last def x c)
-        → ((if b then Some (Struct vars fields) else type_named before x) ≡ Some c) ⊎ Last def x c
-    go true k later = inl k
-    go false k later = later k
-named_last (d.Sum name vars cons ∷ before) def x c is = go (bytes_eq name x) is (named_last before def x c)
-  where
-    go : (b : Bool) → (if b then Some (Sum vars cons) else type_named (before ++ def ∷ []) x) ≡ Some c
-        → (type_named (before ++ def ∷ []) x ≡ Some c → (type_named before x ≡ Some c) ⊎ Last def x c)
-        → ((if b then Some (Sum vars cons) else type_named before x) ≡ Some c) ⊎ Last def x c
-    go true k later = inl k
-    go false k later = later k
-named_last (d.Table name ty nums ∷ before) def x c is = named_last before def x c is
-named_last (d.Fun name vars params result body ∷ before) def x c is = named_last before def x c is
-named_last (d.Entry name ∷ before) def x c is = named_last before def x c is
-
--- ---- the parts of a well formed type
-
-abbrev IsKnown : List Def → Ty-F Ty → Type 0
-IsKnown defs (Ty-F.Named x args) = (c : Composite) × (type_named defs x ≡ Some c)
-IsKnown defs _ = Unit {0}
-
-is_known : (defs : List Def) (vars : List (List ℕ)) (a : Ty) → IsType defs vars a → IsKnown defs (out-Ty a)
-is_known defs vars a IsType.bool = rw t.outs-Bool tt
-is_known defs vars a IsType.unit = rw t.outs-Unit tt
-is_known defs vars a (IsType.int i) = rw t.outs-Int tt
-is_known defs vars a (IsType.buf b is f) = rw t.outs-Buf tt
-is_known defs vars a (IsType.var h) = rw t.outs-Var tt
-is_known defs vars a (IsType.named {c = c} is n ok) = rw t.outs-Named (c, is)
-
-same_some : {A : Type 0} (a b : A) (o : Option A) → o ≡ Some a → o ≡ Some b → a ≡ b
-same_some a b o p q = cc
-
-module _ (before after : List Def) where
-  holds_more : (a : Ty) → HoldsBuffer before a → HoldsBuffer (before ++ after) a
-  holds_more a (HoldsBuffer.buffer b) = HoldsBuffer.buffer b
-  holds_more a (HoldsBuffer.field {x = x} args {vars = vars} {fields = fields} {f = f} is has h) =
-      HoldsBuffer.field args (named_more before after x (Struct vars fields) is) has (holds_more f.ty h)
-
-  module _ (s : Settled before) where
-    holds_less : (a : Ty) (tvars : List (List ℕ)) → IsType before tvars a → HoldsBuffer (before ++ after) a → HoldsBuffer before a
-    holds_less a tvars ok (HoldsBuffer.buffer b) = HoldsBuffer.buffer b
-    holds_less a tvars ok (HoldsBuffer.field {x = x} args {vars = vars} {fields = fields} {f = f} is has h) =
-        let k : (c : Composite) × (type_named before x ≡ Some c) = subst (IsKnown before) (t.outs-Named x args) (is_known before tvars (t.Named x args) ok) in
-        let same : k.0 ≡ Struct vars fields = same_some k.0 (Struct vars fields) (type_named (before ++ after) x) (named_more before after x k.0 k.1) is in
-        let here : type_named before x ≡ Some (Struct vars fields) = k.1 ∙ ap Some same in
-        HoldsBuffer.field args here has (holds_less f.ty vars (s.fields x vars fields f here has) h)
-
-    flat_more : (a : Ty) (tvars : List (List ℕ)) → IsType before tvars a → IsFlat before a → IsFlat (before ++ after) a
-    flat_more a tvars ok f = record { value = f.value; flat = λ h. f.flat (holds_less a tvars ok h) }
-
-    flat_less : (a : Ty) → IsFlat (before ++ after) a → IsFlat before a
-    flat_less a f = record { value = f.value; flat = λ h. f.flat (holds_more a h) }
-
-    pub flat_same : (a : Ty) (tvars : List (List ℕ)) → IsType before tvars a → is_flat (before ++ after) a ≡ is_flat before a
-    flat_same a tvars ok =
-        let all = flat_decides (before ++ after) a in
-        let now = flat_decides before a in
-        let both : Decides (is_flat before a) (IsFlat (before ++ after) a) = ((λ e. flat_more a tvars ok (now.0 e)), (λ f. now.1 (flat_less a f))) in
-        same_from_decides (is_flat (before ++ after) a) (is_flat before a) all both
-
-    mutual
-      pub type_more : (a : Ty) (tvars : List (List ℕ)) → IsType before tvars a → IsType (before ++ after) tvars a
-      type_more a tvars IsType.bool = IsType.bool
-      type_more a tvars IsType.unit = IsType.unit
-      type_more a tvars (IsType.int i) = IsType.int i
-      type_more a tvars (IsType.buf b ok f) = IsType.buf b (type_more b tvars ok) (flat_more b tvars ok f)
-      type_more a tvars (IsType.var h) = IsType.var h
-      type_more a tvars (IsType.named {x = x} {c = c} {args = args} is n oks) = IsType.named (named_more before after x c is) n (arguments_more args tvars oks)
-
-      arguments_more : (args : List Ty) (tvars : List (List ℕ)) → AreArguments before tvars args → AreArguments (before ++ after) tvars args
-      arguments_more args tvars AreArguments.none = AreArguments.none
-      arguments_more args tvars (AreArguments.one {a = a} {args = more} ok f oks) =
-          AreArguments.one (type_more a tvars ok) (flat_more a tvars ok f) (arguments_more more tvars oks)
-
-    -- well formed among the first definitions, with buffers held as in the whole file
-    pub among_decides : (tvars : List (List ℕ)) (a : Ty) → Decides (is_type_by (type_named before) (is_flat (before ++ after)) tvars a) (IsType before tvars a)
-    among_decides tvars a =
-        let same = types_same (type_named before) (is_flat (before ++ after)) (is_flat before) tvars (λ b e. flat_same b tvars ((type_by_decides before tvars b).0 e)) a in
-        subst (λ b. Decides b (IsType before tvars a)) (sym same) (type_by_decides before tvars a)
-
-    pub among_flat : (tvars : List (List ℕ)) (a : Ty) → IsType before tvars a → Decides (is_flat (before ++ after) a) (IsFlat before a)
-    among_flat tvars a ok = subst (λ b. Decides b (IsFlat before a)) (sym (flat_same a tvars ok)) (flat_decides before a)
+  pub among_flat : (tvars : List (List ℕ)) (a : Ty) → IsType before tvars a → Decides (is_flat (before ++ after) a) (IsFlat before a)
+  among_flat tvars a ok = subst (λ b. Decides b (IsFlat before a)) (sym (flat_same a tvars ok)) (flat_decides before a)

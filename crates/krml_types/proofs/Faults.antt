@@ -8,9 +8,9 @@ use Rattle.krml_syntax.specs.declared.tree.Def.{Def}
 use Rattle.krml_ast.specs.Names.{Struct, Sum, type_named}
 use Rattle.krml_ast.specs.IsType.{IsValue, IsType}
 use Rattle.krml_ast.specs.WellTyped.{WellTyped, IsWellTyped, AreWellTyped}
+use Rattle.krml_ast.proofs.Earlier.{Settled, none_settled, named_last, type_more}
 use Rattle.krml_types.specs.Definitions.{well_typed}
 use Rattle.krml_types.specs.Check.{fault_from, first_fault, IsFirstFault}
-use Rattle.krml_types.proofs.Earlier.{Settled, none_settled, named_last, type_more}
 use Rattle.krml_types.proofs.Definitions.{well_decides}
 
 -- ---- definitions that are well typed leave the names settled
