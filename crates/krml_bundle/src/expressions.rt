@@ -95,9 +95,8 @@ pub(crate) fn expr_bundled(alloc: Global, e: &Expr) -> Result<Expr, NoMemory>
             Ok(Expr::Frame(slots, a))
         }
         Expr::Alloc(ty, n, a) => {
-            let ty = ty_bundled(alloc, ty)?;
             let a = boxed(alloc, a)?;
-            Ok(Expr::Alloc(ty, *n, a))
+            Ok(Expr::Alloc(ty_bundled(alloc, ty)?, *n, a))
         }
         Expr::While(c, a) => {
             let c = boxed(alloc, c)?;
@@ -192,9 +191,9 @@ fn item_bundled(alloc: Global, item: &Item) -> Result<Item, NoMemory>
 {
     match item {
         Item::Let(x, ty, e) => {
+            let x = copied(alloc, x)?;
             let ty = ty_bundled(alloc, ty)?;
-            let e = expr_bundled(alloc, e)?;
-            Ok(Item::Let(copied(alloc, x)?, ty, e))
+            Ok(Item::Let(x, ty, expr_bundled(alloc, e)?))
         }
         Item::Run(e) => Ok(Item::Run(expr_bundled(alloc, e)?)),
     }
