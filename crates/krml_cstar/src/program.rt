@@ -12,7 +12,7 @@ use crate::emitter::Emitter;
 use crate::names::{copy, named};
 use crate::scope::{Local, Scope};
 use crate::types::{ctype, is_unit};
-use krml_ast::{BundledFile, Def, Expr, Field, Names, Ty, clone_ty};
+use krml_ast::{BundledFile, Def, Expr, Field, Names, SourceFile, Ty, clone_ty};
 use krml_ctree::{CFun, CProgram, CStruct, CTable, CVar};
 use krml_trace::{Name, NoMemory, Seq};
 use std::alloc::Global;
@@ -165,11 +165,11 @@ fn add<'a>(
 }
 
 /// The program that a file becomes.
-fn translated(alloc: Global, file: &BundledFile) -> Result<CProgram, NoMemory>
-    ensures value { IfOk result (λ p. p ≡ program_of file.now.0) }
-    ensures few { OnOk result (HaveFewVariables file.now.0.defs) }
+fn translated(alloc: Global, file: &SourceFile) -> Result<CProgram, NoMemory>
+    ensures value { IfOk result (λ p. p ≡ program_of file.now) }
+    ensures few { OnOk result (HaveFewVariables file.now.defs) }
 {
-    let defs = file.file().defs.as_slice();
+    let defs = file.defs.as_slice();
     let names = Names::new(alloc, defs)?;
     let mut program = CProgram {
         structs: Seq::new(alloc),
@@ -192,8 +192,6 @@ pub fn to_cstar(alloc: Global, file: &BundledFile) -> Result<CProgram, NoMemory>
     ensures well_formed { IfOk result (λ p. ∥ WellFormed p ∥₁) }
     ensures runs { IfOk result (λ p. ∥ DoesTheSame file.now.0 p ∥₁) }
 {
-    // What the file's form says is told here.
-    file.file();
-    let program = translated(alloc, file)?;
+    let program = translated(alloc, file.file())?;
     Ok(program)
 }
