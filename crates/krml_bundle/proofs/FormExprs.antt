@@ -15,7 +15,7 @@ use Rattle.krml_syntax.specs.declared.tree.Item.TheVariants as item
 use Rattle.krml_syntax.specs.declared.tree.Expr.{Expr, out-Expr, map-Expr}
 use Rattle.krml_syntax.specs.declared.tree.Expr.TheVariants as e
 use Rattle.krml_syntax.specs.declared.tree.Expr.TheOpen.{Expr-F}
-use Rattle.krml_syntax.specs.declared.tree.Expr.TheFolds.{fold-Item, fold-Arm, fold-Case, fold_out-Expr, fold_out-Item, fold-roll-Arm, fold-roll-Case}
+use Rattle.krml_syntax.specs.declared.tree.Expr.TheFolds.{fold_out-Expr, fold_out-Item, fold-roll-Arm, fold-roll-Case}
 use Rattle.krml_ast.specs.FileTypes.{Form}
 use Rattle.krml_bundle.specs.Emitted.{emitted_fun, emitted_type, emitted_table, emitted_field}
 use Rattle.krml_bundle.specs.Bundled.{ty_bundled, slot_bundled, level_pat, pat_bundled, level_expr, level_item, level_arm, level_case, expr_bundled, item_bundled, arm_bundled, case_bundled}

@@ -26,7 +26,7 @@ use Rattle.krml_meaning.specs.Meaning as src
 use Rattle.krml_bundle.specs.Emitted.{emitted_fun}
 use Rattle.krml_bundle.specs.Bundled.{param_bundled, def_bundled, bundled, event_bundled, run_bundled, RunsAsBundled}
 use Rattle.krml_bundle.proofs.RunsValues as is
-use Rattle.krml_bundle.proofs.RunsValues.{value_bundled, vars_bundled, block_bundled, state_bundled, ran_bundled, some_bundled}
+use Rattle.krml_bundle.proofs.RunsValues.{value_bundled, vars_bundled, block_bundled, ran_bundled, some_bundled}
 use Rattle.krml_bundle.proofs.RunsLookups.{function_bundled, function_named_bundled, has_entry_bundled}
 use Rattle.krml_bundle.proofs.RunsForms.{SameCalls}
 use Rattle.krml_bundle.proofs.RunsExprs.{expr_same}

@@ -23,7 +23,7 @@ use Rattle.krml_meaning.specs.Meaning as src
 use Rattle.krml_bundle.specs.Emitted.{emitted_type, emitted_table, emitted_field}
 use Rattle.krml_bundle.specs.Bundled.{ty_bundled, level_pat, pat_bundled, def_bundled}
 use Rattle.krml_bundle.proofs.RunsValues as is
-use Rattle.krml_bundle.proofs.RunsValues.{value_bundled, vars_bundled, env_bundled, state_bundled, ran_bundled, bind_bundled, some_bundled}
+use Rattle.krml_bundle.proofs.RunsValues.{value_bundled, vars_bundled, state_bundled, ran_bundled, bind_bundled, some_bundled}
 use Rattle.krml_bundle.proofs.RunsLookups.{fields_of_bundled, place_bundled, con_place_bundled, table_from_bundled, zero_value_bundled}
 use Rattle.krml_bundle.proofs.RunsForms.{Each, Same, goes_bundled, values_bundled}
 

@@ -1,13 +1,10 @@
 -- What holds of an accepted file: its runs end as they should, its program is well formed and does what it does.
-use Rattle.std.proofs.Common.{◌≡◌, ℕ, List, map, sym, subst, ap, ◌∙◌}
-use Rattle.krml_trace.specs.declared.arguments.Arguments.{Arguments}
-use Rattle.krml_trace.specs.declared.bound.Bound.{Bound}
-use Rattle.krml_trace.specs.declared.outcome.Outcome.{Outcome}
+use Rattle.std.proofs.Common.{◌≡◌, ℕ, List, sym, subst, ap, ◌∙◌}
 use Rattle.krml_trace.specs.Run.{NotStuck}
 use Rattle.krml_syntax.specs.declared.tree.SourceFile.{SourceFile}
 use Rattle.krml_ast.specs.declared.run.SourceRun.{SourceRun}
 use Rattle.krml_ast.specs.FileTypes.{IsHoisted, IsBundled}
-use Rattle.krml_meaning.specs.Meaning.{ArgumentsFit, source_run}
+use Rattle.krml_meaning.specs.Meaning.{source_run}
 use Rattle.krml_meaning.proofs.Spelled.{checked_runs}
 use Rattle.krml_ctree.specs.declared.run.CRun.{CRun}
 use Rattle.krml_ctree.specs.Meaning.{c_run}
@@ -24,7 +21,7 @@ use Rattle.krml_cstar.proofs.Hoisted.{is_hoisted}
 use Rattle.krml_cstar.proofs.Runs.{does_the_same}
 use Rattle.krml_cstar.proofs.WellFormedProgram.{well_formed}
 use Rattle.krml_cli.specs.Refusal.{Accepts}
-use Rattle.krml_cli.specs.Theorem.{image_c, DoesTheSame, IsImplementedBy, EachRunsWell}
+use Rattle.krml_cli.specs.Theorem.{IsImplementedBy, EachRunsWell}
 use Rattle.krml_cli.proofs.BuiltBundled.{built_bundled}
 
 module _ (input : List ℕ) (file : SourceFile) (a : Accepts input file) where

@@ -1,7 +1,5 @@
 -- Definitions that are built are built under the names of C.
-use Rattle.std.proofs.Common.{◌≡◌, ℕ, ◌==◌, Bool, true, false, ◌&&◌, List, [], ◌∷◌, map, length, refl, sym, ap, ◌∙◌, subst}
-use Rattle.std.specs.List.{AllByRecursion}
-use Rattle.krml_syntax.specs.declared.tree.IntTy.{IntTy}
+use Rattle.std.proofs.Common.{◌≡◌, ◌==◌, Bool, List, [], ◌∷◌, map, refl, sym, ap, ◌∙◌, subst}
 use Rattle.krml_syntax.specs.declared.tree.Ty.{Ty, out-Ty, roll-Ty, map-Ty}
 use Rattle.krml_syntax.specs.declared.tree.Ty.TheVariants as t
 use Rattle.krml_syntax.specs.declared.tree.Ty.TheOpen.{Ty-F}
@@ -13,7 +11,7 @@ use Rattle.krml_syntax.specs.declared.tree.Item.{Item, roll-Item}
 use Rattle.krml_syntax.specs.declared.tree.Item.TheVariants as item
 use Rattle.krml_syntax.specs.declared.tree.Expr.{Expr, roll-Expr, map-Expr}
 use Rattle.krml_syntax.specs.declared.tree.Expr.TheVariants as e
-use Rattle.krml_syntax.specs.declared.tree.Expr.TheOpen.{Expr-F, Item-F, Arm-F, Case-F}
+use Rattle.krml_syntax.specs.declared.tree.Expr.TheOpen.{Expr-F, Item-F}
 use Rattle.krml_syntax.specs.declared.tree.Expr.TheFolds.{fold-Arm, fold-Case, fold_out-Expr, fold_out-Item, fold-roll-Expr, fold-roll-Item, ind-Expr, map-Item}
 use Rattle.krml_syntax.specs.declared.tree.Def.{Def}
 use Rattle.krml_syntax.specs.declared.tree.Def.TheVariants as d

@@ -16,7 +16,6 @@ use Rattle.krml_types.specs.Check.{IsChecked}
 use Rattle.krml_bundle.specs.Bundled.{bundled}
 use Rattle.krml_cstar.specs.Built.{AreBuilt, first_unbuilt, IsFirstUnbuilt}
 use Rattle.krml_cstar.specs.Translation.{program_of}
-use Rattle.krml_command.specs.declared.request.Command.TheVariants.{C, Check}
 use Rattle.krml_cli.specs.declared.refusal.FileRefusal.{FileRefusal}
 use Rattle.krml_cli.specs.declared.refusal.FileRefusal.TheVariants as refusal
 use Rattle.krml_cli.specs.declared.stop.Stop.{Stop}
@@ -24,8 +23,7 @@ use Rattle.krml_cli.specs.declared.stop.Stop.TheVariants as stop
 use Rattle.krml_cli.specs.Accept.{IsAnswered, IsNotBuiltAt}
 use Rattle.krml_cli.specs.Ends.{CompilesTo, IsAccepted, AppendsPrefix, WritesAll, Call, Unwritten, Stops, Ends, line_of, status_of}
 use Rattle.krml_cli.specs.Refusal.{Accepts, Refuses, of_read, of_type}
-use Rattle.krml_cli.specs.Steps.{IsText, Answers, Runs, Notes, Reports}
-use Rattle.krml_ctree.specs.WellFormed.{WellFormed}
+use Rattle.krml_cli.specs.Steps.{IsText, Runs, Notes, Reports}
 use Rattle.krml_cli.proofs.Accepted.{runs_well, program_well_formed, is_implemented}
 use Rattle.krml_cli.proofs.Refusals.{asks_is_no_usage}
 use Rattle.krml_cli.proofs.Unbuilt.{all_built}

@@ -2,7 +2,6 @@
 use Rattle.std.proofs.Common.{◌≡◌, ℕ, ◌+◌, ◌*◌, List, ◌++◌, map, length, replicate, codes, refl, sym, ap, ◌∙◌, append_assoc}
 use Rattle.std.specs.Fmt.{decimal}
 use Rattle.std.specs.List.{flat_map}
-use Rattle.krml_ctree.specs.declared.tree.CArm.{CArm}
 use Rattle.krml_ctree.specs.declared.tree.CArray.{CArray}
 use Rattle.krml_ctree.specs.declared.tree.CExpr.{CExpr}
 use Rattle.krml_ctree.specs.declared.tree.CStatement.{CStatement}

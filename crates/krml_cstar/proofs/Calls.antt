@@ -29,13 +29,13 @@ use Rattle.krml_ctree.specs.declared.tree.CExpr.TheVariants as c
 use Rattle.krml_ctree.specs.declared.tree.CStatement.TheVariants as st
 use Rattle.krml_ctree.specs.declared.tree.CFun.{CFun}
 use Rattle.krml_ctree.specs.declared.tree.CProgram.{CProgram}
-use Rattle.krml_ctree.specs.Parts.{Local, Locals, CState, CRan}
+use Rattle.krml_ctree.specs.Parts.{Locals, CState, CRan}
 use Rattle.krml_ctree.specs.Parts as parts
 use Rattle.krml_ctree.specs.Meaning as tgt
 use Rattle.krml_ctree.specs.Meaning.{blank_local}
 use Rattle.krml_cstar.specs.Built.{AreBuilt}
 use Rattle.krml_cstar.specs.Translation as code
-use Rattle.krml_cstar.specs.Translation.{Names, Out, Comp, ctype, plain, is_unit, gives, does, nothing, params_from, cvars, fun_code}
+use Rattle.krml_cstar.specs.Translation.{Comp, ctype, plain, is_unit, gives, does, nothing, params_from, cvars, fun_code}
 use Rattle.krml_cstar.proofs.Images.{image_at, images_at, the_image, state_image, Sim}
 use Rattle.krml_cstar.proofs.Lookups.{Lookups}
 use Rattle.krml_cstar.proofs.Part.{FunctionBuilt, function_built, table_built, erased_built, at_built, public_same}

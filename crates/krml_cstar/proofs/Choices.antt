@@ -24,13 +24,13 @@ use Rattle.krml_ctree.specs.declared.tree.CExpr.TheVariants as c
 use Rattle.krml_ctree.specs.declared.tree.CStatement.{CStatement}
 use Rattle.krml_ctree.specs.declared.tree.CStatement.TheVariants as st
 use Rattle.krml_ctree.specs.declared.tree.CProgram.{CProgram}
-use Rattle.krml_ctree.specs.Parts.{Local, Locals, CState, CRan, set, close}
+use Rattle.krml_ctree.specs.Parts.{Locals, CState, CRan, set, close}
 use Rattle.krml_ctree.specs.Parts as parts
 use Rattle.krml_ctree.specs.Meaning as tgt
 use Rattle.krml_ctree.specs.Meaning.{blank_local}
 use Rattle.krml_cstar.specs.Built.{AreBuilt}
 use Rattle.krml_cstar.specs.Translation as code
-use Rattle.krml_cstar.specs.Translation.{Names, Out, Comp, ctype, plain, is_unit, nothing}
+use Rattle.krml_cstar.specs.Translation.{Names, Comp, ctype, plain, is_unit, nothing}
 use Rattle.krml_cstar.proofs.Images.{image_at, the_image, state_image, Sim}
 use Rattle.krml_cstar.proofs.Typed.{image_typed}
 use Rattle.krml_cstar.proofs.VariableNames.{number_of, number-plain}

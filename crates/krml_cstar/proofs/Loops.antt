@@ -37,7 +37,7 @@ use Rattle.krml_ctree.specs.declared.tree.CExpr.TheVariants as c
 use Rattle.krml_ctree.specs.declared.tree.CStatement.{CStatement}
 use Rattle.krml_ctree.specs.declared.tree.CStatement.TheVariants as st
 use Rattle.krml_ctree.specs.declared.tree.CProgram.{CProgram}
-use Rattle.krml_ctree.specs.Parts.{Local, Locals, CState, CRan, set, close}
+use Rattle.krml_ctree.specs.Parts.{Local, Locals, set, close}
 use Rattle.krml_ctree.specs.Parts as parts
 use Rattle.krml_ctree.specs.Meaning as tgt
 use Rattle.krml_cstar.specs.Built.{AreBuilt}

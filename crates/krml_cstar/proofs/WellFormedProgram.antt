@@ -27,7 +27,7 @@ use Rattle.krml_ctree.specs.declared.tree.CProgram.{CProgram}
 use Rattle.krml_ctree.specs.Shape as shape
 use Rattle.krml_ctree.specs.Shape.{IsField, IsFunction, VarKeeps, FieldKeeps, StructKeeps, TableKeeps, ResultKeeps, AnswerKeeps, FunKeeps}
 use Rattle.krml_ctree.specs.WellFormed as wf
-use Rattle.krml_ctree.specs.WellFormed.{Scope, Declared, of_var, IsKnown, AnswerFits, FunFits, StructFits, StructsFit, TableFits, WellFormed}
+use Rattle.krml_ctree.specs.WellFormed.{Scope, of_var, IsKnown, AnswerFits, FunFits, StructsFit, TableFits, WellFormed}
 use Rattle.krml_meaning.proofs.Lists.{each_so, each_append, each_among, map_twice}
 use Rattle.krml_meaning.proofs.Files.{contains_first, contains_later, take_front, at_front, through, each_def}
 use Rattle.krml_cstar.specs.Built.{is_ty_built, are_fields_built, is_built}

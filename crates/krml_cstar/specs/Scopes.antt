@@ -1,5 +1,5 @@
 -- Variables in scope, as the emitter has them.
-use Rattle.std.specs.Prelude.{ℕ, ◌-◌, List, drop, length}
+use Rattle.std.specs.Prelude.{ℕ, ◌-◌, drop, length}
 use Rattle.krml_cstar.specs.declared.scope.Local.{Local}
 use Rattle.krml_cstar.specs.Translation.{Names, Known}
 

@@ -20,7 +20,7 @@ use Rattle.krml_ctree.specs.declared.tree.CExpr.TheFolds.{fold_out-CExpr}
 use Rattle.krml_ctree.specs.Text.{as_tokens, type_step, expr_step, width_word, type_of, declarator, number, bin_symbol, cmp_symbol, div_symbol, binary, cast, behind_comma, separated, expr}
 use Rattle.krml_ctree.specs.Shape.{IsVariable, IsPlain, TypeKeeps, ExprKeeps, ExprsKeep}
 use Rattle.krml_ctree.proofs.Names.{initial, number_begins, number_value, literal_fits}
-use Rattle.krml_ctree.proofs.Parse.{Tokens, Reading, next, is_next, first, begins_expr, many, width_at, behind_type, type_at, Operator, operator_at, Value, fields_from, as_expr, Inside, inside_of, exprs, behind_commas, value_at, Start, start, Part, part_of}
+use Rattle.krml_ctree.proofs.Parse.{Tokens, is_next, begins_expr, many, width_at, behind_type, type_at, Operator, operator_at, Value, fields_from, Inside, inside_of, exprs, behind_commas, value_at, Start, start, Part, part_of}
 use Rattle.krml_ctree.proofs.Parse as read
 
 -- ---- types

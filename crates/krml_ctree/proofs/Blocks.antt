@@ -9,12 +9,12 @@ use Rattle.krml_ctree.specs.declared.tree.CStatement.{CStatement}
 use Rattle.krml_ctree.specs.declared.tree.CStatement.TheVariants as s
 use Rattle.krml_ctree.specs.declared.tree.CStatement.TheFolds.{fold_out-CStatement}
 use Rattle.krml_ctree.specs.declared.tree.CArm.{CArm, out-CArm}
-use Rattle.krml_ctree.specs.Text.{as_tokens, Arm, declarator, div_symbol, array, expr, arm, if_words, else_words, else_ifs, ifs, otherwise, statement, statements}
+use Rattle.krml_ctree.specs.Text.{as_tokens, declarator, div_symbol, array, arm, if_words, else_words, else_ifs, ifs, otherwise, statement, statements}
 use Rattle.krml_ctree.specs.Text as text
 use Rattle.krml_ctree.specs.Shape.{IsVariable, IsFunction, IsTable, TypeKeeps, VarKeeps, ArrayKeeps, ExprKeeps, StatementKeeps, StatementsKeep, ArmKeeps, ArmsKeep}
 use Rattle.krml_ctree.proofs.Arms.{arm_of, arm_is}
 use Rattle.krml_ctree.proofs.Names.{initial, variable_no_star, decimal_value}
-use Rattle.krml_ctree.proofs.Parse.{Tokens, Reading, Reader, next, is_next, first, many, Value, as_expr, value_at, Start, start, Source, source_of, Tested, Found, Block, Tail, begins_array, index, tested, block_at, tail_at}
+use Rattle.krml_ctree.proofs.Parse.{Tokens, next, is_next, first, many, value_at, Start, start, Source, source_of, Tested, Block, Tail, begins_array, tested, block_at, tail_at}
 use Rattle.krml_ctree.proofs.Parse as read
 use Rattle.krml_ctree.proofs.Many.{many_again}
 use Rattle.krml_ctree.proofs.Again.{spelled, spelled_args, spelled_type, BeginsType, type_begins, type_starts, type_again, declarator_is, declarator_again, Begins, begins, Closes, no_equals, levels, all_levels, value_again, exprs_again, expr_again, paren_again}

@@ -15,7 +15,7 @@ use Rattle.krml_ctree.specs.declared.tree.CProgram.{CProgram}
 use Rattle.krml_ctree.specs.Text.{as_tokens, width_word, number, declarator, behind_comma, separated, result_of, structure, table, parameters, head, prototype, answer, definition, tokens_of}
 use Rattle.krml_ctree.specs.Shape.{VarKeeps, FieldKeeps, StructKeeps, TableKeeps, ResultKeeps, AnswerKeeps, FunKeeps, KeepsShapes}
 use Rattle.krml_ctree.proofs.Names.{field_no_star, function_no_star, function_no_brace, number_value, number_no_brace}
-use Rattle.krml_ctree.proofs.Parse.{Tokens, Reading, next, is_next, many, Head, head_at, answer_at, Part, part_of, program_at}
+use Rattle.krml_ctree.proofs.Parse.{Tokens, Reading, is_next, Head, head_at, answer_at, Part, part_of, program_at}
 use Rattle.krml_ctree.proofs.Parse as read
 use Rattle.krml_ctree.proofs.Many.{many_again, commas_again}
 use Rattle.krml_ctree.proofs.Again.{spelled, type_begins, type_no_brace, type_no_void, type_again, type_part, width_again, declarator_is, declarator_again, levels, expr_again}

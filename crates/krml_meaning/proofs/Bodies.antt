@@ -27,7 +27,7 @@ use Rattle.krml_meaning.proofs.Facts.{InSum}
 use Rattle.krml_meaning.proofs.Files.{facts}
 use Rattle.krml_meaning.proofs.Levels.{AllProper}
 use Rattle.krml_meaning.proofs.Pieces as p
-use Rattle.krml_meaning.proofs.Pieces.{inside, inside_item, inside_arm, inside_case, with_inside, in_values, in_tests, in_items, in_arms, in_cases, written}
+use Rattle.krml_meaning.proofs.Pieces.{inside, inside_item, inside_arm, inside_case, in_values, in_tests, in_items, in_arms, in_cases, written}
 use Rattle.krml_meaning.proofs.Proper.{HasZero, IsProper, AreProper, ArmsProper, ItemsProper, CasesProper}
 use Rattle.krml_meaning.proofs.Zeros.{no_vars, vars_gone, has_zero}
 

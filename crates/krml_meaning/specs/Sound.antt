@@ -5,7 +5,6 @@ use Rattle.krml_trace.specs.declared.arguments.Arguments.{Arguments}
 use Rattle.krml_trace.specs.declared.bound.Bound.{Bound}
 use Rattle.krml_trace.specs.declared.outcome.Outcome.{Outcome}
 use Rattle.krml_trace.specs.declared.outcome.Outcome.TheVariants as outcome
-use Rattle.krml_trace.specs.After.{After}
 use Rattle.krml_syntax.specs.declared.tree.Ty.{Ty}
 use Rattle.krml_syntax.specs.declared.tree.Expr.TheOpen.{Expr-F}
 use Rattle.krml_syntax.specs.declared.tree.Def.{Def}

@@ -1,5 +1,4 @@
 use Rattle.std.proofs.Common.{sym, subst}
-use Rattle.krml_syntax.specs.declared.tree.SourceFile.{SourceFile}
 use Rattle.krml_cli.specs.Refusal.{Accepts}
 use Rattle.krml_cli.proofs.Accepted.{hoisted}
 use Rattle.krml_cli.proofs.Ended.{compiles_by, is_accepted}

@@ -1,6 +1,6 @@
 use Rattle.std.proofs.Common.{◌≡◌, ◌++◌, length, map, codes, ap, ◌∙◌}
 use Rattle.krml_ctree.specs.Text.{as_text, number, separated}
-use Rattle.krml_cprint.specs.Printing.{table_words, table_len}
+use Rattle.krml_cprint.specs.Printing.{table_len}
 use Rattle.krml_cprint.proofs.Printed.{table_printed}
 use Rattle.krml_cprint.proofs.program.table.Goals as goal
 

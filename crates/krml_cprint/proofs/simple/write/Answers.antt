@@ -1,5 +1,4 @@
-use Rattle.krml_ctree.specs.Text.{as_text, declarator, expr, element, binary, call, div_symbol}
-use Rattle.std.proofs.Common.{ap, ◌∙◌, ◌++◌}
+use Rattle.krml_ctree.specs.Text.{as_text, expr, element}
 use Rattle.krml_cprint.proofs.Printed.{equation_printed}
 use Rattle.krml_cprint.proofs.simple.write.Goals as goal
 
