@@ -1,6 +1,8 @@
--- Runs of C that were computed by hand: expressions, statements, and then programs. A definition that says another thing
--- breaks one.
-use Rattle.std.proofs.Common.{◌≡◌, ℕ, Bool, true, false, List, [], ◌∷◌, map, Option, Some, None, codes, refl}
+-- Runs of C and texts that were computed by hand: expressions, statements, and then programs. A definition that says another
+-- thing breaks one.
+use Rattle.std.proofs.Common.{arith, ◌≡◌, ℕ, Bool, true, false, List, [], ◌∷◌, ◌++◌, map, Option, Some, None, codes, refl}
+use Rattle.std.proofs.lemmas.Fmt.{decimal_digit}
+use Rattle.std.specs.Fmt.{decimal}
 use Rattle.krml_trace.specs.declared.width.Width.{Width}
 use Rattle.krml_trace.specs.declared.width.Width.TheVariants.{W8, W32, W64}
 use Rattle.krml_trace.specs.declared.argument.Arg.{Arg}
@@ -32,12 +34,17 @@ use Rattle.krml_ctree.specs.declared.tree.CExpr.TheVariants as e
 use Rattle.krml_ctree.specs.declared.tree.CExpr.TheFolds.{fold_out-CExpr}
 use Rattle.krml_ctree.specs.declared.tree.CArm.{CArm, roll-CArm}
 use Rattle.krml_ctree.specs.declared.tree.CStatement.{CStatement}
+use Rattle.krml_ctree.specs.declared.tree.CStatement.TheOpen.{CStatement-F}
 use Rattle.krml_ctree.specs.declared.tree.CStatement.TheVariants as st
 use Rattle.krml_ctree.specs.declared.tree.CStatement.TheFolds.{fold_out-CStatement, fold-CArm, fold-roll-CArm}
 use Rattle.krml_ctree.specs.declared.tree.CFun.{CFun}
 use Rattle.krml_ctree.specs.declared.tree.CProgram.{CProgram}
 use Rattle.krml_ctree.specs.Parts.{CBlock, CState, Local, Locals, same_in, same_type, is_known, struct_named}
 use Rattle.krml_ctree.specs.Parts as parts
+use Rattle.krml_ctree.specs.Shape.{IsVariable, IsPlain, TypeKeeps, ArrayKeeps}
+use Rattle.krml_ctree.specs.Tokens.{tokens}
+use Rattle.krml_ctree.specs.Text.{as_text}
+use Rattle.krml_ctree.specs.Text as text
 use Rattle.krml_ctree.specs.Meaning as tgt
 use Rattle.krml_ctree.specs.Meaning.{value_of, do_one}
 
@@ -757,3 +764,158 @@ factorial_is_deep args is = simp (is, computing)
 
 factorial_is_spent : Runs factorial (arg.Num W32 3 ∷ []) 2 3 outcome.Spent (event.Br false ∷ event.Br false ∷ event.Br false ∷ [])
 factorial_is_spent args is = simp (is, computing)
+
+-- ---- tokens and shapes
+
+operators_of_two_bytes : tokens (codes "a<=b>=c!=d==e<<f>>g") ≡ codes "a" ∷ codes "<=" ∷ codes "b" ∷ codes ">=" ∷ codes "c" ∷ codes "!=" ∷ codes "d" ∷ codes "==" ∷ codes "e" ∷ codes "<<" ∷ codes "f" ∷ codes ">>" ∷ codes "g" ∷ []
+operators_of_two_bytes = refl
+
+-- other bytes side by side are tokens of their own
+operators_of_one_byte : tokens (codes "a>!(-*b") ≡ codes "a" ∷ codes ">" ∷ codes "!" ∷ codes "(" ∷ codes "-" ∷ codes "*" ∷ codes "b" ∷ []
+operators_of_one_byte = refl
+
+array_as_long_as_can_be : ArrayKeeps (array t.U8 x 4294967295)
+array_as_long_as_can_be = record { ty = TypeKeeps.plain IsPlain.u8; name = IsVariable.plain (codes "0") refl; len = omega arith }
+
+array_too_long : ArrayKeeps (array t.U8 x 4294967296) → ⊥
+array_too_long h = omega (arith, h.len)
+
+-- ---- how a text is computed
+
+abbrev written : CExpr → List ℕ
+written = text.expr as_text
+
+abbrev written_type : CType → List ℕ
+written_type = text.type_of as_text
+
+abbrev written_one : CStatement → ℕ → List ℕ
+written_one = text.statement as_text
+
+decimal_1 : decimal 1 ≡ codes "1"
+decimal_1 = decimal_digit 1 (omega arith)
+
+decimal_2 : decimal 2 ≡ codes "2"
+decimal_2 = decimal_digit 2 (omega arith)
+
+decimal_3 : decimal 3 ≡ codes "3"
+decimal_3 = decimal_digit 3 (omega arith)
+
+decimal_7 : decimal 7 ≡ codes "7"
+decimal_7 = decimal_digit 7 (omega arith)
+
+decimal_8 : decimal 8 ≡ codes "8"
+decimal_8 = decimal_digit 8 (omega arith)
+
+decimal_9 : decimal 9 ≡ codes "9"
+decimal_9 = decimal_digit 9 (omega arith)
+
+type_u8_is : written_type t.U8 ≡ codes "uint8_t "
+type_u8_is = rw (fold_out-CType (List ℕ) (text.type_step as_text) t.U8, t.outs-U8) refl
+
+type_u32_is : written_type t.U32 ≡ codes "uint32_t "
+type_u32_is = rw (fold_out-CType (List ℕ) (text.type_step as_text) t.U32, t.outs-U32) refl
+
+type_ptr_is : (a : CType) → written_type (t.Ptr a) ≡ written_type a ++ codes "*"
+type_ptr_is a = rw (fold_out-CType (List ℕ) (text.type_step as_text) (t.Ptr a), t.outs-Ptr) refl
+
+var_text_is : (a : List ℕ) → written (e.Var a) ≡ a
+var_text_is a = rw (fold_out-CExpr, e.outs-Var) refl
+
+lit_text_is : (w : Width) (n : ℕ) → written (e.Lit w n) ≡ text.cast as_text w (text.number w n)
+lit_text_is w n = rw (fold_out-CExpr, e.outs-Lit) refl
+
+bin_text_is : (o : CBin) (a b : CExpr) → written (e.Bin o a b) ≡ text.binary as_text (text.bin_symbol o) (written a) (written b)
+bin_text_is o a b = rw (fold_out-CExpr (List ℕ) (text.expr_step as_text) (e.Bin o a b), e.outs-Bin) refl
+
+cmp_text_is : (w : Width) (o : CmpKind) (a b : CExpr) → written (e.Cmp w o a b) ≡ text.cast as_text w (text.binary as_text (text.cmp_symbol o) (written a) (written b))
+cmp_text_is w o a b = rw (fold_out-CExpr (List ℕ) (text.expr_step as_text) (e.Cmp w o a b), e.outs-Cmp) refl
+
+blank_text_is : (v : CVar) (level : ℕ) → written_one (st.Blank v) level ≡ text.ended as_text level (text.declarator as_text v)
+blank_text_is v level = rw (fold_out-CStatement, st.outs-Blank) refl
+
+set_text_is : (a : List ℕ) (b : CExpr) (level : ℕ) → written_one (st.Set a b) level ≡ text.equation as_text level a (written b)
+set_text_is a b level = rw (fold_out-CStatement, st.outs-Set) refl
+
+abbrev written_arm : CArm → text.Arm as_text
+written_arm = fold-CArm (ℕ → List ℕ) (text.Arm as_text) (text.statement_step as_text) (text.arm_step as_text)
+
+arm_text_is : (a : CExpr) (body : List CStatement) → written_arm (roll-CArm (record { test = a; body = body })) ≡ record { test = written a; body = text.block as_text (map written_one body) }
+arm_text_is a body = rw (fold-roll-CArm)
+
+chain_text_is : (arms : List CArm) (rest : List CStatement) (level : ℕ)
+    → written_one (st.Chain arms rest) level ≡ (text.ifs as_text (map written_arm arms) level ++ text.otherwise as_text (map written_one rest) level) ++ text.closing as_text level
+chain_text_is arms rest level = rw (fold_out-CStatement, st.outs-Chain) refl
+
+loop_text_is : (first : List CStatement) (test : CExpr) (body : List CStatement) (level : ℕ)
+    → written_one (st.Loop first test body) level
+    ≡ text.statement_step as_text (CStatement-F.Loop (map written_one first) test (map written_one body)) level
+loop_text_is first test body level = rw (fold_out-CStatement, st.outs-Loop) refl
+
+ruleset texts = (
+  decimal_1,
+  decimal_2,
+  decimal_3,
+  decimal_7,
+  decimal_8,
+  decimal_9,
+  type_u8_is,
+  type_u32_is,
+  type_ptr_is,
+  var_text_is,
+  lit_text_is,
+  bin_text_is,
+  cmp_text_is,
+  blank_text_is,
+  set_text_is,
+  arm_text_is,
+  chain_text_is,
+  loop_text_is,
+)
+
+-- ---- texts
+
+pointer_written : written_type (t.Ptr t.U8) ≡ codes "uint8_t *"
+pointer_written = simp texts
+
+sum_written : written (e.Bin op.Add (u32 7) (e.Var x)) ≡ codes "(((uint32_t)7u) + v0)"
+sum_written = simp texts
+
+shift_written : written (e.Bin op.Shl (e.Var x) (e.Var y)) ≡ codes "(v0 << v1)"
+shift_written = simp texts
+
+-- a comparison of two variables has this text
+abbrev ComparesAs : CmpKind → List ℕ → Type 0
+ComparesAs o a = written (e.Cmp W8 o (e.Var x) (e.Var y)) ≡ a
+
+equal_written : ComparesAs cmp.Eq (codes "((uint8_t)(v0 == v1))")
+equal_written = simp texts
+
+unequal_written : ComparesAs cmp.Ne (codes "((uint8_t)(v0 != v1))")
+unequal_written = simp texts
+
+less_written : ComparesAs cmp.Lt (codes "((uint8_t)(v0 < v1))")
+less_written = simp texts
+
+at_most_written : ComparesAs cmp.Le (codes "((uint8_t)(v0 <= v1))")
+at_most_written = simp texts
+
+greater_written : ComparesAs cmp.Gt (codes "((uint8_t)(v0 > v1))")
+greater_written = simp texts
+
+at_least_written : ComparesAs cmp.Ge (codes "((uint8_t)(v0 >= v1))")
+at_least_written = simp texts
+
+chain_written : written_one (st.Chain (arm (e.Var x) (st.Set x (e.Var y) ∷ []) ∷ arm (e.Var y) [] ∷ []) (st.Set y (e.Var x) ∷ [])) 1
+    ≡ codes "  if (v0) {\n    v0 = v1;\n  } else if (v1) {\n  } else {\n    v1 = v0;\n  }\n"
+chain_written = simp texts
+
+loop_written : written_one (st.Loop (st.Blank (typed t.U32 y) ∷ []) (e.Var x) (st.Set x (e.Var y) ∷ [])) 0
+    ≡ codes "for (;;) {\n  uint32_t v1;\n  if (v0) {\n    v0 = v1;\n  } else {\n    break;\n  }\n}\n"
+loop_written = simp texts
+
+tables_written : text.text_of byte_word
+    ≡ codes "#include <stdint.h>\nstruct s_p {\n  uint8_t m_x;\n  uint32_t m_y;\n};\nstatic const uint8_t t_s[1] = {1u};\nstatic const uint32_t t_t[3] = {7u, 8u, 9u};\n"
+tables_written = simp texts
+
+function_written : text.text_of (funs one_word) ≡ codes "#include <stdint.h>\nuint32_t f_f(uint32_t v0);\nuint32_t f_f(uint32_t v0) {\n  return ((uint32_t)1u);\n}\n"
+function_written = simp texts

@@ -452,6 +452,10 @@ part_of_that_one calls = simp computing
 part_of_another_one : Leaves types (e.Part (codes "some") 1 no) (pair 0 0) [] 5
 part_of_another_one calls = simp computing
 
+-- the first definition has a level of its own
+zero_of_the_first_struct : src.zero_value (d.Struct (codes "p") [] (field x u8_ty ∷ field y u8_ty ∷ []) ∷ []) (t.Named (codes "p") []) ≡ Some (pair 0 0)
+zero_of_the_first_struct = simp computing
+
 -- ---- matches
 
 abbrev arm : Pat → Expr → Arm
