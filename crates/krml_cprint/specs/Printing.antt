@@ -1,6 +1,5 @@
 -- Parts of what is printed, as the printer writes them one behind another.
 use Rattle.std.specs.Prelude.{ℕ, zero, suc, ◌+◌, List, [], ◌++◌, codes}
-use Rattle.std.specs.Fmt.{decimal}
 use Rattle.krml_trace.specs.declared.width.Width.{Width}
 use Rattle.krml_ctree.specs.declared.tree.CExpr.{CExpr}
 use Rattle.krml_ctree.specs.declared.tree.CArm.{CArm}
@@ -29,17 +28,9 @@ test_line before test level = as_text.line level (((arm_words before ++ group as
 abbrev pub loop_end : ℕ → List ℕ
 loop_end level = ((as_text.line (level + 1) (codes "} else {") ++ as_text.line (level + 2) (codes "break;")) ++ as_text.line (level + 1) (codes "}")) ++ as_text.line level (codes "}")
 
--- struct NAME {
-abbrev pub struct_line : List ℕ → List ℕ
-struct_line name = as_text.line 0 ((word as_text (codes "struct") ++ word as_text name) ++ codes "{")
-
 -- static const TYPE NAME
 abbrev pub table_words : Width → List ℕ → List ℕ
 table_words width name = ((codes "static const " ++ width_word width) ++ codes " ") ++ name
-
--- [LEN] = {
-abbrev pub table_len : ℕ → List ℕ
-table_len len = (codes "[" ++ decimal len) ++ codes "] = {"
 
 -- the line that opens a definition
 abbrev pub opening : CFun → List ℕ

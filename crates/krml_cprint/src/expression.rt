@@ -1,45 +1,52 @@
 //! Expressions.
 
 ghost use Rattle.std.specs.Prelude.{◌≡◌, ◌++◌, OnOk, map, codes};
-ghost use Rattle.krml_ctree.specs.Text.{as_text, width_word, separated, expr, index, element, binary, call};
+ghost use Rattle.krml_ctree.specs.Text.{as_text, separated, cast, number, expr, element, binary, call, div_symbol};
 
-use crate::words::{bin_symbol, cmp_symbol, comma, number, width_word};
+use crate::words::{
+    cast_opening, comma, comparison, comparison_opening, division_sign, named, number, operator,
+};
 use krml_ctree::CExpr;
 use krml_trace::{Name, NoMemory, Width};
 
-/// Writes what begins a conversion to the type of a width.
-fn open_cast(out: &mut Vec<u8>, width: Width) -> Result<(), NoMemory>
-    ensures { OnOk result (out.new.items ≡ out.old.items ++ ((codes "((" ++ width_word width) ++ codes ")")) }
+/// Writes a number converted to the type of its width.
+fn literal(out: &mut Vec<u8>, width: Width, n: u64) -> Result<(), NoMemory>
+    ensures { OnOk result (out.new.items ≡ out.old.items ++ cast as_text width (number width n)) }
 {
-    out.extend_from_slice(b"((")?;
-    out.extend_from_slice(width_word(width))?;
+    out.extend_from_slice(cast_opening(width))?;
+    number(out, width, n)?;
     out.extend_from_slice(b")")
 }
 
-/// Writes what begins a comparison whose answer has a width.
-fn open_comparison(out: &mut Vec<u8>, width: Width) -> Result<(), NoMemory>
-    ensures { OnOk result (out.new.items ≡ out.old.items ++ (((codes "((" ++ width_word width) ++ codes ")") ++ codes "(")) }
+/// Writes what selects a field of a struct.
+fn selection(out: &mut Vec<u8>, name: &Name) -> Result<(), NoMemory>
+    ensures { OnOk result (out.new.items ≡ out.old.items ++ (codes "." ++ name.now)) }
 {
-    open_cast(out, width)?;
-    out.extend_from_slice(b"(")
+    out.extend_from_slice(b".")?;
+    out.extend_from_slice(name.as_bytes())
 }
 
-/// Writes what begins the values of a struct.
-fn open_build(out: &mut Vec<u8>, name: &Name) -> Result<(), NoMemory>
-    ensures { OnOk result (out.new.items ≡ out.old.items ++ ((codes "((struct " ++ name.now) ++ codes "){")) }
+/// Writes an expression behind other words.
+#[cycle(expr)]
+fn behind(out: &mut Vec<u8>, before: &[u8], e: &CExpr) -> Result<(), NoMemory>
+    ensures { OnOk result (out.new.items ≡ out.old.items ++ (before.now ++ expr as_text e.now)) }
 {
-    out.extend_from_slice(b"((struct ")?;
-    out.extend_from_slice(name.as_bytes())?;
-    out.extend_from_slice(b"){")
+    out.extend_from_slice(before)?;
+    expr(out, e)
 }
 
-/// Writes a symbol between spaces.
-fn spaced(out: &mut Vec<u8>, symbol: &[u8]) -> Result<(), NoMemory>
-    ensures { OnOk result (out.new.items ≡ out.old.items ++ ((codes " " ++ symbol.now) ++ codes " ")) }
+/// Writes an expression between other words.
+#[cycle(expr)]
+pub(crate) fn between(
+    out: &mut Vec<u8>,
+    before: &[u8],
+    e: &CExpr,
+    after: &[u8],
+) -> Result<(), NoMemory>
+    ensures { OnOk result (out.new.items ≡ out.old.items ++ ((before.now ++ expr as_text e.now) ++ after.now)) }
 {
-    out.extend_from_slice(b" ")?;
-    out.extend_from_slice(symbol)?;
-    out.extend_from_slice(b" ")
+    behind(out, before, e)?;
+    out.extend_from_slice(after)
 }
 
 /// Writes an expression.
@@ -49,41 +56,32 @@ pub(crate) fn expr(out: &mut Vec<u8>, e: &CExpr) -> Result<(), NoMemory>
 {
     match e {
         CExpr::Var(x) => out.extend_from_slice(x.as_bytes()),
-        CExpr::Lit(width, n) => {
-            open_cast(out, *width)?;
-            number(out, *width, *n)?;
-            out.extend_from_slice(b")")
-        }
-        CExpr::Cast(width, a) => {
-            open_cast(out, *width)?;
-            expr(out, a.get())?;
-            out.extend_from_slice(b")")
-        }
+        CExpr::Lit(width, n) => literal(out, *width, *n),
+        CExpr::Cast(width, a) => between(out, cast_opening(*width), a.get(), b")"),
         CExpr::Bin(op, a, b) => {
-            out.extend_from_slice(b"(")?;
-            expr(out, a.get())?;
-            spaced(out, bin_symbol(*op))?;
-            expr(out, b.get())?;
-            out.extend_from_slice(b")")
+            behind(out, b"(", a.get())?;
+            between(out, operator(*op), b.get(), b")")
         }
         CExpr::Cmp(width, op, a, b) => {
-            open_comparison(out, *width)?;
-            expr(out, a.get())?;
-            spaced(out, cmp_symbol(*op))?;
-            expr(out, b.get())?;
-            out.extend_from_slice(b"))")
+            behind(out, comparison_opening(*width), a.get())?;
+            between(out, comparison(*op), b.get(), b"))")
         }
-        CExpr::Build(name, values) => {
-            open_build(out, name)?;
-            exprs(out, values.as_slice())?;
-            out.extend_from_slice(b"})")
-        }
+        CExpr::Build(name, values) => build(out, name, values.as_slice()),
         CExpr::Field(a, name) => {
             expr(out, a.get())?;
-            out.extend_from_slice(b".")?;
-            out.extend_from_slice(name.as_bytes())
+            selection(out, name)
         }
     }
+}
+
+/// Writes a struct, from the values of its fields.
+#[cycle(expr)]
+fn build(out: &mut Vec<u8>, name: &Name, values: &[CExpr]) -> Result<(), NoMemory>
+    ensures { OnOk result (out.new.items ≡ out.old.items ++ ((((codes "((struct " ++ name.now) ++ codes "){") ++ separated as_text (map (expr as_text) values.now)) ++ codes "})")) }
+{
+    named(out, b"((struct ", name, b"){")?;
+    exprs(out, values)?;
+    out.extend_from_slice(b"})")
 }
 
 /// Writes expressions with commas between them.
@@ -98,21 +96,12 @@ fn exprs(out: &mut Vec<u8>, es: &[CExpr]) -> Result<(), NoMemory>
     Ok(())
 }
 
-/// Writes an index.
-fn index(out: &mut Vec<u8>, i: &CExpr) -> Result<(), NoMemory>
-    ensures { OnOk result (out.new.items ≡ out.old.items ++ index as_text (expr as_text i.now)) }
-{
-    out.extend_from_slice(b"[")?;
-    expr(out, i)?;
-    out.extend_from_slice(b"]")
-}
-
 /// Writes the element that a pointer and an index lead to.
 pub(crate) fn element(out: &mut Vec<u8>, a: &CExpr, i: &CExpr) -> Result<(), NoMemory>
     ensures { OnOk result (out.new.items ≡ out.old.items ++ element as_text (expr as_text a.now) i.now) }
 {
     expr(out, a)?;
-    index(out, i)
+    between(out, b"[", i, b"]")
 }
 
 /// Writes an element of a table.
@@ -120,18 +109,20 @@ pub(crate) fn table_element(out: &mut Vec<u8>, name: &Name, i: &CExpr) -> Result
     ensures { OnOk result (out.new.items ≡ out.old.items ++ element as_text (as_text.token name.now) i.now) }
 {
     out.extend_from_slice(name.as_bytes())?;
-    index(out, i)
+    between(out, b"[", i, b"]")
 }
 
-/// Writes a symbol between two operands.
-pub(crate) fn binary(out: &mut Vec<u8>, symbol: &[u8], a: &CExpr, b: &CExpr) -> Result<(), NoMemory>
-    ensures { OnOk result (out.new.items ≡ out.old.items ++ binary as_text symbol.now (expr as_text a.now) (expr as_text b.now)) }
+/// Writes a quotient, or else a remainder.
+pub(crate) fn quotient(
+    out: &mut Vec<u8>,
+    is_quotient: bool,
+    a: &CExpr,
+    b: &CExpr,
+) -> Result<(), NoMemory>
+    ensures { OnOk result (out.new.items ≡ out.old.items ++ binary as_text (div_symbol is_quotient) (expr as_text a.now) (expr as_text b.now)) }
 {
-    out.extend_from_slice(b"(")?;
-    expr(out, a)?;
-    spaced(out, symbol)?;
-    expr(out, b)?;
-    out.extend_from_slice(b")")
+    behind(out, b"(", a)?;
+    between(out, division_sign(is_quotient), b, b")")
 }
 
 /// Writes a call.

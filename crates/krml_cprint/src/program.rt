@@ -5,12 +5,12 @@ ghost use Rattle.std.specs.List.{flat_map};
 ghost use Rattle.krml_ctree.specs.Text.{as_text, ended, declarator, separated, number, structure, table, text_of};
 ghost use Rattle.krml_ctree.specs.Spelling.{SpelledAlone};
 ghost use Rattle.krml_ctree.specs.WellFormed.{WellFormed};
-ghost use Rattle.krml_cprint.specs.Printing.{struct_line, table_words, table_len};
+ghost use Rattle.krml_cprint.specs.Printing.{table_words};
 
 use crate::function::{definitions, prototypes};
 use crate::layout::margin;
 use crate::types::declarator;
-use crate::words::{comma, count, number, width_word};
+use crate::words::{comma, counted, named, number, width_word};
 use krml_ctree::{CProgram, CStruct, CTable, CVar, spelled_alone};
 use krml_trace::{Name, NoMemory, Width};
 use std::alloc::Global;
@@ -27,20 +27,11 @@ fn fields(out: &mut Vec<u8>, all: &[CVar]) -> Result<(), NoMemory>
     Ok(())
 }
 
-/// Writes the line that opens a struct.
-fn struct_line(out: &mut Vec<u8>, name: &Name) -> Result<(), NoMemory>
-    ensures { OnOk result (out.new.items ≡ out.old.items ++ struct_line name.now) }
-{
-    out.extend_from_slice(b"struct ")?;
-    out.extend_from_slice(name.as_bytes())?;
-    out.extend_from_slice(b" {\n")
-}
-
 /// Writes a struct.
 fn structure(out: &mut Vec<u8>, s: &CStruct) -> Result<(), NoMemory>
     ensures { OnOk result (out.new.items ≡ out.old.items ++ structure as_text s.now) }
 {
-    struct_line(out, &s.name)?;
+    named(out, b"struct ", &s.name, b" {\n")?;
     fields(out, s.fields.as_slice())?;
     out.extend_from_slice(b"};\n")
 }
@@ -76,21 +67,12 @@ fn table_words(out: &mut Vec<u8>, width: Width, name: &Name) -> Result<(), NoMem
     out.extend_from_slice(name.as_bytes())
 }
 
-/// Writes how many numbers a table has, and what stands before them.
-fn table_len(out: &mut Vec<u8>, len: usize) -> Result<(), NoMemory>
-    ensures { OnOk result (out.new.items ≡ out.old.items ++ table_len len) }
-{
-    out.extend_from_slice(b"[")?;
-    count(out, len as u64)?;
-    out.extend_from_slice(b"] = {")
-}
-
 /// Writes a table.
 fn table(out: &mut Vec<u8>, t: &CTable) -> Result<(), NoMemory>
     ensures { OnOk result (out.new.items ≡ out.old.items ++ table as_text t.now) }
 {
     table_words(out, t.width, &t.name)?;
-    table_len(out, t.nums.len())?;
+    counted(out, t.nums.len() as u64, b"] = {")?;
     numbers(out, t.width, t.nums.as_slice())?;
     out.extend_from_slice(b"};\n")?;
     Ok(())

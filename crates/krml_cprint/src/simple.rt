@@ -1,16 +1,25 @@
 //! Statements of one line.
 
-ghost use Rattle.std.specs.Prelude.{◌≡◌, ◌++◌, OnOk};
+ghost use Rattle.std.specs.Prelude.{◌≡◌, ◌*◌, ◌++◌, OnOk, replicate, codes};
 ghost use Rattle.krml_ctree.specs.Text.{as_text, declarator, expr, binary, call, element, ended, equation, div_symbol};
 
-use crate::expression::{binary, call, element, expr, table_element};
+use crate::expression::{between, call, element, quotient, table_element};
 use crate::layout::margin;
 use crate::types::declarator;
-use crate::words::div_symbol;
 use krml_ctree::{CExpr, CVar};
 use krml_trace::{Name, NoMemory};
 
+/// Writes a variable, and what stands before its value.
+fn left_side(out: &mut Vec<u8>, v: &CVar, level: u32) -> Result<(), NoMemory>
+    ensures { OnOk result (out.new.items ≡ out.old.items ++ ((replicate (2 * level) 32 ++ declarator as_text v.now) ++ codes " = ")) }
+{
+    margin(out, level)?;
+    declarator(out, v)?;
+    out.extend_from_slice(b" = ")
+}
+
 /// Writes a variable and its value.
+#[tactic(auto, using(crate::proofs::Printed::assignment_printed))]
 pub(crate) fn declaration(
     out: &mut Vec<u8>,
     v: &CVar,
@@ -21,10 +30,7 @@ pub(crate) fn declaration(
 {
     margin(out, level)?;
     declarator(out, v)?;
-    out.extend_from_slice(b" = ")?;
-    expr(out, e)?;
-    out.extend_from_slice(b";\n")?;
-    Ok(())
+    between(out, b" = ", e, b";\n")
 }
 
 /// Writes a variable without a value.
@@ -37,17 +43,17 @@ pub(crate) fn blank(out: &mut Vec<u8>, v: &CVar, level: u32) -> Result<(), NoMem
 }
 
 /// Writes an assignment.
+#[tactic(auto, using(crate::proofs::Printed::assignment_printed))]
 pub(crate) fn set(out: &mut Vec<u8>, name: &Name, e: &CExpr, level: u32) -> Result<(), NoMemory>
     ensures { OnOk result (out.new.items ≡ out.old.items ++ equation as_text level (as_text.token name.now) (expr as_text e.now)) }
 {
     margin(out, level)?;
     out.extend_from_slice(name.as_bytes())?;
-    out.extend_from_slice(b" = ")?;
-    expr(out, e)?;
-    out.extend_from_slice(b";\n")
+    between(out, b" = ", e, b";\n")
 }
 
 /// Writes a variable and the element that a pointer and an index lead to.
+#[tactic(auto, using(crate::proofs::Printed::equation_printed))]
 pub(crate) fn read(
     out: &mut Vec<u8>,
     v: &CVar,
@@ -57,15 +63,13 @@ pub(crate) fn read(
 ) -> Result<(), NoMemory>
     ensures { OnOk result (out.new.items ≡ out.old.items ++ equation as_text level (declarator as_text v.now) (element as_text (expr as_text a.now) i.now)) }
 {
-    margin(out, level)?;
-    declarator(out, v)?;
-    out.extend_from_slice(b" = ")?;
+    left_side(out, v, level)?;
     element(out, a, i)?;
-    out.extend_from_slice(b";\n")?;
-    Ok(())
+    out.extend_from_slice(b";\n")
 }
 
 /// Writes a variable and an element of a table.
+#[tactic(auto, using(crate::proofs::Printed::equation_printed))]
 pub(crate) fn read_table(
     out: &mut Vec<u8>,
     v: &CVar,
@@ -75,15 +79,13 @@ pub(crate) fn read_table(
 ) -> Result<(), NoMemory>
     ensures { OnOk result (out.new.items ≡ out.old.items ++ equation as_text level (declarator as_text v.now) (element as_text (as_text.token name.now) i.now)) }
 {
-    margin(out, level)?;
-    declarator(out, v)?;
-    out.extend_from_slice(b" = ")?;
+    left_side(out, v, level)?;
     table_element(out, name, i)?;
-    out.extend_from_slice(b";\n")?;
-    Ok(())
+    out.extend_from_slice(b";\n")
 }
 
 /// Writes an assignment to the element that a pointer and an index lead to.
+#[tactic(auto, using(crate::proofs::Printed::assignment_printed))]
 pub(crate) fn write(
     out: &mut Vec<u8>,
     a: &CExpr,
@@ -95,32 +97,28 @@ pub(crate) fn write(
 {
     margin(out, level)?;
     element(out, a, i)?;
-    out.extend_from_slice(b" = ")?;
-    expr(out, e)?;
-    out.extend_from_slice(b";\n")?;
-    Ok(())
+    between(out, b" = ", e, b";\n")
 }
 
 /// Writes a variable and a quotient, or else a remainder.
+#[tactic(auto, using(crate::proofs::Printed::equation_printed))]
 pub(crate) fn division(
     out: &mut Vec<u8>,
     v: &CVar,
-    quotient: bool,
+    is_quotient: bool,
     a: &CExpr,
     b: &CExpr,
     level: u32,
 ) -> Result<(), NoMemory>
-    ensures { OnOk result (out.new.items ≡ out.old.items ++ equation as_text level (declarator as_text v.now) (binary as_text (div_symbol quotient) (expr as_text a.now) (expr as_text b.now))) }
+    ensures { OnOk result (out.new.items ≡ out.old.items ++ equation as_text level (declarator as_text v.now) (binary as_text (div_symbol is_quotient) (expr as_text a.now) (expr as_text b.now))) }
 {
-    margin(out, level)?;
-    declarator(out, v)?;
-    out.extend_from_slice(b" = ")?;
-    binary(out, div_symbol(quotient), a, b)?;
-    out.extend_from_slice(b";\n")?;
-    Ok(())
+    left_side(out, v, level)?;
+    quotient(out, is_quotient, a, b)?;
+    out.extend_from_slice(b";\n")
 }
 
 /// Writes a variable and the result of a call.
+#[tactic(auto, using(crate::proofs::Printed::equation_printed))]
 pub(crate) fn result_of_call(
     out: &mut Vec<u8>,
     v: &CVar,
@@ -130,12 +128,9 @@ pub(crate) fn result_of_call(
 ) -> Result<(), NoMemory>
     ensures { OnOk result (out.new.items ≡ out.old.items ++ equation as_text level (declarator as_text v.now) (call as_text fun.now args.now)) }
 {
-    margin(out, level)?;
-    declarator(out, v)?;
-    out.extend_from_slice(b" = ")?;
+    left_side(out, v, level)?;
     call(out, fun, args)?;
-    out.extend_from_slice(b";\n")?;
-    Ok(())
+    out.extend_from_slice(b";\n")
 }
 
 /// Writes a call that gives nothing.

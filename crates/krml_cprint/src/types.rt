@@ -3,7 +3,7 @@
 ghost use Rattle.std.specs.Prelude.{◌≡◌, ◌++◌, OnOk};
 ghost use Rattle.krml_ctree.specs.Text.{as_text, type_of, result_of, declarator, array};
 
-use crate::words::count;
+use crate::words::{counted, named};
 use krml_ctree::{CArray, CType, CVar};
 use krml_trace::NoMemory;
 
@@ -15,11 +15,7 @@ fn type_of(out: &mut Vec<u8>, ty: &CType) -> Result<(), NoMemory>
         CType::U8 => out.extend_from_slice(b"uint8_t "),
         CType::U32 => out.extend_from_slice(b"uint32_t "),
         CType::U64 => out.extend_from_slice(b"uint64_t "),
-        CType::Struct(name) => {
-            out.extend_from_slice(b"struct ")?;
-            out.extend_from_slice(name.as_bytes())?;
-            out.extend_from_slice(b" ")
-        }
+        CType::Struct(name) => named(out, b"struct ", name, b" "),
         CType::Ptr(element) => {
             type_of(out, element.get())?;
             out.extend_from_slice(b"*")
@@ -51,7 +47,5 @@ pub(crate) fn array(out: &mut Vec<u8>, a: &CArray) -> Result<(), NoMemory>
 {
     type_of(out, &a.ty)?;
     out.extend_from_slice(a.name.as_bytes())?;
-    out.extend_from_slice(b"[")?;
-    count(out, a.len as u64)?;
-    out.extend_from_slice(b"]")
+    counted(out, a.len as u64, b"]")
 }

@@ -1,8 +1,0 @@
-use Rattle.krml_ctree.specs.Text.{as_text, declarator, element}
-use Rattle.krml_cprint.proofs.Printed.{equation_printed}
-use Rattle.krml_cprint.proofs.simple.read_table.Goals as goal
-
-pub returns : goal.returns
-returns c =
-    equation_printed c.args.out.now.items c.margin.new.out.items c.declarator.new.out.items c.extend_from_slice.new.self.items c.table_element.new.out.items c.extend_from_slice-2.new.self.items
-    (declarator as_text c.args.v.now) (element as_text c.args.name.now c.args.i.now) c.args.level c.in_ok-margin.ensures c.in_ok-declarator.ensures c.in_ok-extend_from_slice.ensures.items c.in_ok-table_element.ensures c.in_ok-extend_from_slice-2.ensures.items
