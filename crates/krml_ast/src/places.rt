@@ -51,15 +51,14 @@ impl<'a> Places<'a> {
         ensures { OnOk result ((kind : Kind) (x : List ℕ) → has_of kind self.new x ≡ place_or (has_of kind self.old x) (is_among (names_in kind def.now) x) place) }
     {
         match def {
-            Def::Struct { name, .. } => self.types.add(name.as_bytes(), place)?,
+            Def::Struct { name, .. } => self.types.add(name.as_bytes(), place),
             Def::Sum { name, cons, .. } => {
                 self.types.add(name.as_bytes(), place)?;
-                self.cons.add_cons(cons.as_slice(), place)?;
+                self.cons.add_cons(cons.as_slice(), place)
             }
-            Def::Table { name, .. } => self.tables.add(name.as_bytes(), place)?,
-            Def::Fun { name, .. } => self.funs.add(name.as_bytes(), place)?,
-            Def::Entry { name } => self.entries.add(name.as_bytes(), place)?,
+            Def::Table { name, .. } => self.tables.add(name.as_bytes(), place),
+            Def::Fun { name, .. } => self.funs.add(name.as_bytes(), place),
+            Def::Entry { name } => self.entries.add(name.as_bytes(), place),
         }
-        Ok(())
     }
 }

@@ -1,6 +1,7 @@
 //! Copies of types, what they have, and types at type arguments.
 
-ghost use Rattle.std.specs.Prelude.{◌≡◌, IfOk, map, option_map};
+ghost use Rattle.std.specs.Prelude.{◌≡◌, IfOk, IsOkAnd, map, option_map};
+ghost use Rattle.krml_syntax.specs.declared.tree.Ty.TheVariants.{Buf, Named, Var};
 ghost use Rattle.krml_syntax.specs.declared.tree.Ty.{out-Ty};
 ghost use Rattle.krml_ast.specs.IsType.{argument_of, type_at};
 ghost use Rattle.krml_ast.specs.TypeParts.{element_of, name_of, arguments_of};
@@ -8,6 +9,32 @@ ghost use Rattle.krml_ast.specs.TypeParts.{element_of, name_of, arguments_of};
 use krml_syntax::Ty;
 use krml_trace::{Box, Name, NoMemory, Seq};
 use std::alloc::Global;
+
+/// A buffer of elements of a type.
+pub(crate) fn buffer(alloc: Global, element: Result<Ty, NoMemory>) -> Result<Ty, NoMemory>
+    ensures { IfOk result (λ r. IsOkAnd element (λ element. r ≡ Buf element)) }
+{
+    Ok(Ty::Buf(Box::new(alloc, element?)?))
+}
+
+/// A type variable.
+fn variable(alloc: Global, x: &Name) -> Result<Ty, NoMemory>
+    ensures { IfOk result (λ r. r ≡ Var x.now) }
+{
+    Ok(Ty::Var(Name::new(alloc, x.as_bytes())?))
+}
+
+/// The struct or sum of a name at type arguments.
+pub(crate) fn named(
+    alloc: Global,
+    x: &Name,
+    args: Result<Seq<Ty>, NoMemory>,
+) -> Result<Ty, NoMemory>
+    ensures { IfOk result (λ r. IsOkAnd args (λ args. r ≡ Named x.now args)) }
+{
+    let args = args?;
+    Ok(Ty::Named(Name::new(alloc, x.as_bytes())?, args))
+}
 
 /// A copy of a type.
 #[cycle(clone)]
@@ -18,15 +45,9 @@ pub fn clone_ty(alloc: Global, a: &Ty) -> Result<Ty, NoMemory>
         Ty::Bool => Ok(Ty::Bool),
         Ty::Unit => Ok(Ty::Unit),
         Ty::Int(i) => Ok(Ty::Int(*i)),
-        Ty::Buf(b) => {
-            let b = clone_ty(alloc, b.get())?;
-            Ok(Ty::Buf(Box::new(alloc, b)?))
-        }
-        Ty::Var(x) => Ok(Ty::Var(Name::new(alloc, x.as_bytes())?)),
-        Ty::Named(x, args) => {
-            let args = clone_each(alloc, args.as_slice())?;
-            Ok(Ty::Named(Name::new(alloc, x.as_bytes())?, args))
-        }
+        Ty::Buf(b) => buffer(alloc, clone_ty(alloc, b.get())),
+        Ty::Var(x) => variable(alloc, x),
+        Ty::Named(x, args) => named(alloc, x, clone_each(alloc, args.as_slice())),
     }
 }
 
@@ -47,10 +68,10 @@ fn argument_of(alloc: Global, vars: &[Name], args: &[Ty], x: &Name) -> Result<Ty
     ensures { IfOk result (λ r. r ≡ argument_of vars.now args.now x.now) }
 {
     let [v, vars @ ..] = vars else {
-        return Ok(Ty::Var(Name::new(alloc, x.as_bytes())?));
+        return variable(alloc, x);
     };
     let [a, args @ ..] = args else {
-        return Ok(Ty::Var(Name::new(alloc, x.as_bytes())?));
+        return variable(alloc, x);
     };
     if v.as_bytes() == x.as_bytes() {
         return clone_ty(alloc, a);
@@ -67,15 +88,9 @@ pub fn type_at(alloc: Global, a: &Ty, vars: &[Name], args: &[Ty]) -> Result<Ty, 
         Ty::Bool => Ok(Ty::Bool),
         Ty::Unit => Ok(Ty::Unit),
         Ty::Int(i) => Ok(Ty::Int(*i)),
-        Ty::Buf(b) => {
-            let b = type_at(alloc, b.get(), vars, args)?;
-            Ok(Ty::Buf(Box::new(alloc, b)?))
-        }
+        Ty::Buf(b) => buffer(alloc, type_at(alloc, b.get(), vars, args)),
         Ty::Var(x) => argument_of(alloc, vars, args, x),
-        Ty::Named(x, types) => {
-            let types = each_at(alloc, types.as_slice(), vars, args)?;
-            Ok(Ty::Named(Name::new(alloc, x.as_bytes())?, types))
-        }
+        Ty::Named(x, types) => named(alloc, x, each_at(alloc, types.as_slice(), vars, args)),
     }
 }
 
