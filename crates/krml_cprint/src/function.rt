@@ -5,7 +5,7 @@ ghost use Rattle.std.specs.List.{flat_map};
 ghost use Rattle.krml_ctree.specs.Text.{as_text, parameters, head, prototype, answer, definition};
 ghost use Rattle.krml_cprint.specs.Printing.{opening};
 
-use crate::expression::expr;
+use crate::expression::between;
 use crate::statement::block;
 use crate::types::{declarator, result_of};
 use crate::words::comma;
@@ -61,11 +61,7 @@ fn answer(out: &mut Vec<u8>, e: &Option<CExpr>) -> Result<(), NoMemory>
 {
     match e {
         None => Ok(()),
-        Some(e) => {
-            out.extend_from_slice(b"  return ")?;
-            expr(out, e)?;
-            out.extend_from_slice(b";\n")
-        }
+        Some(e) => between(out, b"  return ", e, b";\n"),
     }
 }
 

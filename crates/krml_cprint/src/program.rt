@@ -1,6 +1,6 @@
 //! Programs.
 
-ghost use Rattle.std.specs.Prelude.{◌≡◌, ◌++◌, OnOk, IfOk, map, length, codes};
+ghost use Rattle.std.specs.Prelude.{◌≡◌, ◌++◌, OnOk, IfOk, map};
 ghost use Rattle.std.specs.List.{flat_map};
 ghost use Rattle.krml_ctree.specs.Text.{as_text, ended, declarator, separated, number, structure, table, text_of};
 ghost use Rattle.krml_ctree.specs.Spelling.{SpelledAlone};
@@ -8,8 +8,7 @@ ghost use Rattle.krml_ctree.specs.WellFormed.{WellFormed};
 ghost use Rattle.krml_cprint.specs.Printing.{table_words};
 
 use crate::function::{definitions, prototypes};
-use crate::layout::margin;
-use crate::types::declarator;
+use crate::simple::blank;
 use crate::words::{comma, counted, named, number, width_word};
 use krml_ctree::{CProgram, CStruct, CTable, CVar, spelled_alone};
 use krml_trace::{Name, NoMemory, Width};
@@ -20,9 +19,7 @@ fn fields(out: &mut Vec<u8>, all: &[CVar]) -> Result<(), NoMemory>
     ensures { OnOk result (out.new.items ≡ out.old.items ++ flat_map (λ f. ended as_text 1 (declarator as_text f)) all.now) }
 {
     for field in all {
-        margin(out, 1)?;
-        declarator(out, field)?;
-        out.extend_from_slice(b";\n")?;
+        blank(out, field, 1)?;
     }
     Ok(())
 }

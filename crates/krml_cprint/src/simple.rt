@@ -33,7 +33,7 @@ pub(crate) fn declaration(
     between(out, b" = ", e, b";\n")
 }
 
-/// Writes a variable without a value.
+/// Writes a variable without a value, or a field.
 pub(crate) fn blank(out: &mut Vec<u8>, v: &CVar, level: u32) -> Result<(), NoMemory>
     ensures { OnOk result (out.new.items ≡ out.old.items ++ ended as_text level (declarator as_text v.now)) }
 {

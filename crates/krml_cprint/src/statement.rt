@@ -5,7 +5,7 @@ ghost use Rattle.std.specs.List.{flat_map};
 ghost use Rattle.krml_ctree.specs.Text.{as_text, closing, ended, array, arm, ifs, otherwise, statement, statements};
 ghost use Rattle.krml_cprint.specs.Printing.{arm_of, arm_words, test_line, loop_end};
 
-use crate::expression::expr;
+use crate::expression::between;
 use crate::layout::{inner_level, line, margin};
 use crate::simple::{
     blank, declaration, division, read, read_table, result_of_call, run, set, write,
@@ -30,9 +30,7 @@ fn test_line(out: &mut Vec<u8>, before: usize, test: &CExpr, level: u32) -> Resu
 {
     margin(out, level)?;
     keywords(out, before)?;
-    out.extend_from_slice(b"(")?;
-    expr(out, test)?;
-    out.extend_from_slice(b") {\n")
+    between(out, b"(", test, b") {\n")
 }
 
 /// Writes what stands behind the second list of a loop.
