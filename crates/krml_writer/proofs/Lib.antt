@@ -1,5 +1,6 @@
 pub mod Alike
-pub mod WordBytes
 pub mod Kept
-pub mod Respelled
 pub mod Limits
+pub mod Parts
+pub mod Respelled
+pub mod WordBytes

@@ -1,11 +1,11 @@
-ghost use Rattle.std.specs.Prelude.{◌≡◌, IfOk, map};
+ghost use Rattle.std.specs.Prelude.{◌≡◌, [], ◌∷◌, ◌++◌, IfOk, IsOkAnd, codes, map};
 ghost use Rattle.krml_writer.specs.Written.{applied_form, frame_form, form_of_expr, form_of_item, form_of_arm};
 
-use crate::part::{headed, headed_by_two, number, row, word};
+use crate::part::{Part, binary, list, list_with, number, ternary, unary, word};
 use crate::types::{form_of_pat, form_of_ty, forms_of_tys};
 use krml_forms::Form;
 use krml_syntax::{Arm, Expr, Item, Slot, Ty, bin_word, bool_word, cmp_word, int_word, shift_word};
-use krml_trace::{Name, NoMemory, Seq};
+use krml_trace::{Name, NoMemory, Seq, both};
 use std::alloc::Global;
 
 /// A form that spells nothing, for an expression that no text spells.
@@ -21,145 +21,167 @@ fn applied(
     head: &[u8],
     name: &Name,
     tys: &[Ty],
-    values: Seq<Form>,
-) -> Result<Form, NoMemory>
-    ensures { IfOk result (λ form. form ≡ applied_form head.now name.now tys.now values) }
+    values: Result<Seq<Form>, NoMemory>,
+) -> Part
+    ensures { IfOk result (λ form. IsOkAnd values (λ values. form ≡ applied_form head.now name.now tys.now values)) }
 {
     let tys = Form::List(forms_of_tys(alloc, tys)?);
-    let mut rest = row(alloc, [tys])?;
-    rest.append(values)?;
-    headed_by_two(alloc, head, name.as_bytes(), rest)
+    list_with(
+        alloc,
+        [word(alloc, head), word(alloc, name.as_bytes()), Ok(tys)],
+        values,
+    )
+}
+
+/// `(for x a b e)`.
+fn counting(alloc: Global, name: &Name, first: Part, end: Part, body: Part) -> Part
+    ensures { IfOk result (λ form. IsOkAnd first (λ a. IsOkAnd end (λ b. IsOkAnd body (λ c. form ≡ Form.List (Form.Atom (codes "for") ∷ Form.Atom name.now ∷ a ∷ b ∷ c ∷ []))))) }
+{
+    let name = word(alloc, name.as_bytes());
+    list(alloc, [word(alloc, b"for"), name, first, end, body])
+}
+
+/// `(match e (P a)..)`, of a value and branches.
+fn matching(alloc: Global, value: Part, arms: Result<Seq<Form>, NoMemory>) -> Part
+    ensures { IfOk result (λ form. IsOkAnd value (λ value. IsOkAnd arms (λ arms. form ≡ Form.List (Form.Atom (codes "match") ∷ value ∷ arms)))) }
+{
+    list_with(alloc, [word(alloc, b"match"), value], arms)
+}
+
+/// `(do ITEM.. e)`, of items and the expression behind them.
+fn sequence(alloc: Global, items: Result<Seq<Form>, NoMemory>, last: Part) -> Part
+    ensures { IfOk result (λ form. IsOkAnd items (λ items. IsOkAnd last (λ last. form ≡ Form.List (Form.Atom (codes "do") ∷ items ++ last ∷ [])))) }
+{
+    let (mut forms, last) = both(items, last)?;
+    forms.push(last)?;
+    list_with(alloc, [word(alloc, b"do")], Ok(forms))
 }
 
 /// A frame; no text spells one with slots.
-fn frame(alloc: Global, slots: &[Slot], body: Form) -> Result<Form, NoMemory>
-    ensures { IfOk result (λ form. form ≡ frame_form slots.now body) }
+fn frame(alloc: Global, slots: &[Slot], body: Part) -> Part
+    ensures { IfOk result (λ form. IsOkAnd body (λ body. form ≡ frame_form slots.now body)) }
 {
+    let body = body?;
     match slots {
-        [] => headed(alloc, b"frame", row(alloc, [body])?),
+        [] => unary(alloc, b"frame", Ok(body)),
         [_, ..] => Ok(nothing(alloc)),
     }
 }
 
 /// The form of an expression.
 #[cycle(write)]
-pub fn form_of_expr(alloc: Global, expr: &Expr) -> Result<Form, NoMemory>
+pub fn form_of_expr(alloc: Global, expr: &Expr) -> Part
     ensures { IfOk result (λ form. form ≡ form_of_expr expr.now) }
 {
     match expr {
         Expr::Var(name) => word(alloc, name.as_bytes()),
         Expr::Unit => word(alloc, b"unit"),
         Expr::Bool(b) => word(alloc, bool_word(*b)),
-        Expr::Num(int, n) => {
-            let n = number(alloc, *n)?;
-            headed(alloc, int_word(*int), row(alloc, [n])?)
-        }
+        Expr::Num(int, n) => unary(alloc, int_word(*int), number(alloc, *n)),
         Expr::Bin(op, int, a, b) => {
-            let a = form_of_expr(alloc, a.get())?;
-            let b = form_of_expr(alloc, b.get())?;
-            headed_by_two(alloc, bin_word(*op), int_word(*int), row(alloc, [a, b])?)
+            let a = form_of_expr(alloc, a.get());
+            let b = form_of_expr(alloc, b.get());
+            ternary(alloc, bin_word(*op), word(alloc, int_word(*int)), a, b)
         }
         Expr::Shift(left, int, a, b) => {
-            let a = form_of_expr(alloc, a.get())?;
-            let b = form_of_expr(alloc, b.get())?;
-            headed_by_two(
-                alloc,
-                shift_word(*left),
-                int_word(*int),
-                row(alloc, [a, b])?,
-            )
+            let a = form_of_expr(alloc, a.get());
+            let b = form_of_expr(alloc, b.get());
+            ternary(alloc, shift_word(*left), word(alloc, int_word(*int)), a, b)
         }
         Expr::Cmp(op, int, a, b) => {
-            let a = form_of_expr(alloc, a.get())?;
-            let b = form_of_expr(alloc, b.get())?;
-            headed_by_two(alloc, cmp_word(*op), int_word(*int), row(alloc, [a, b])?)
+            let a = form_of_expr(alloc, a.get());
+            let b = form_of_expr(alloc, b.get());
+            ternary(alloc, cmp_word(*op), word(alloc, int_word(*int)), a, b)
         }
         Expr::Not(a) => {
-            let a = form_of_expr(alloc, a.get())?;
-            headed(alloc, b"not", row(alloc, [a])?)
+            let a = form_of_expr(alloc, a.get());
+            unary(alloc, b"not", a)
         }
         Expr::Cast(from, to, a) => {
-            let to = word(alloc, int_word(*to))?;
-            let a = form_of_expr(alloc, a.get())?;
-            headed_by_two(alloc, b"cast", int_word(*from), row(alloc, [to, a])?)
+            let a = form_of_expr(alloc, a.get());
+            ternary(
+                alloc,
+                b"cast",
+                word(alloc, int_word(*from)),
+                word(alloc, int_word(*to)),
+                a,
+            )
         }
         Expr::Hide(int, a) => {
-            let a = form_of_expr(alloc, a.get())?;
-            headed_by_two(alloc, b"hide", int_word(*int), row(alloc, [a])?)
+            let a = form_of_expr(alloc, a.get());
+            binary(alloc, b"hide", word(alloc, int_word(*int)), a)
         }
         Expr::Make(name, tys, values) => {
-            let values = forms_of_exprs(alloc, values.as_slice())?;
+            let values = forms_of_exprs(alloc, values.as_slice());
             applied(alloc, b"make", name, tys.as_slice(), values)
         }
         Expr::Get(field, a) => {
-            let a = form_of_expr(alloc, a.get())?;
-            headed_by_two(alloc, b"get", field.as_bytes(), row(alloc, [a])?)
+            let a = form_of_expr(alloc, a.get());
+            binary(alloc, b"get", word(alloc, field.as_bytes()), a)
         }
         Expr::Con(name, tys, values) => {
-            let values = forms_of_exprs(alloc, values.as_slice())?;
+            let values = forms_of_exprs(alloc, values.as_slice());
             applied(alloc, b"con", name, tys.as_slice(), values)
         }
         Expr::Read(a, b) => {
-            let a = form_of_expr(alloc, a.get())?;
-            let b = form_of_expr(alloc, b.get())?;
-            headed(alloc, b"read", row(alloc, [a, b])?)
+            let a = form_of_expr(alloc, a.get());
+            let b = form_of_expr(alloc, b.get());
+            binary(alloc, b"read", a, b)
         }
         Expr::Write(a, b, c) => {
-            let a = form_of_expr(alloc, a.get())?;
-            let b = form_of_expr(alloc, b.get())?;
-            let c = form_of_expr(alloc, c.get())?;
-            headed(alloc, b"write", row(alloc, [a, b, c])?)
+            let a = form_of_expr(alloc, a.get());
+            let b = form_of_expr(alloc, b.get());
+            let c = form_of_expr(alloc, c.get());
+            ternary(alloc, b"write", a, b, c)
         }
         Expr::Slice(a, b, c) => {
-            let a = form_of_expr(alloc, a.get())?;
-            let b = form_of_expr(alloc, b.get())?;
-            let c = form_of_expr(alloc, c.get())?;
-            headed(alloc, b"slice", row(alloc, [a, b, c])?)
+            let a = form_of_expr(alloc, a.get());
+            let b = form_of_expr(alloc, b.get());
+            let c = form_of_expr(alloc, c.get());
+            ternary(alloc, b"slice", a, b, c)
         }
         Expr::Tab(table, a) => {
-            let a = form_of_expr(alloc, a.get())?;
-            headed_by_two(alloc, b"tab", table.as_bytes(), row(alloc, [a])?)
+            let a = form_of_expr(alloc, a.get());
+            binary(alloc, b"tab", word(alloc, table.as_bytes()), a)
         }
         Expr::If(c, a, b) => {
-            let c = form_of_expr(alloc, c.get())?;
-            let a = form_of_expr(alloc, a.get())?;
-            let b = form_of_expr(alloc, b.get())?;
-            headed(alloc, b"if", row(alloc, [c, a, b])?)
+            let c = form_of_expr(alloc, c.get());
+            let a = form_of_expr(alloc, a.get());
+            let b = form_of_expr(alloc, b.get());
+            ternary(alloc, b"if", c, a, b)
         }
         Expr::Match(a, arms) => {
-            let a = form_of_expr(alloc, a.get())?;
-            let mut parts = row(alloc, [a])?;
-            parts.append(forms_of_arms(alloc, arms.as_slice())?)?;
-            headed(alloc, b"match", parts)
+            let a = form_of_expr(alloc, a.get());
+            let arms = forms_of_arms(alloc, arms.as_slice());
+            matching(alloc, a, arms)
         }
         Expr::Do(items, a) => {
-            let mut parts = forms_of_items(alloc, items.as_slice())?;
-            parts.push(form_of_expr(alloc, a.get())?)?;
-            headed(alloc, b"do", parts)
+            let items = forms_of_items(alloc, items.as_slice());
+            let a = form_of_expr(alloc, a.get());
+            sequence(alloc, items, a)
         }
         Expr::Frame(slots, a) => {
-            let a = form_of_expr(alloc, a.get())?;
+            let a = form_of_expr(alloc, a.get());
             frame(alloc, slots.as_slice(), a)
         }
         Expr::Alloc(ty, n, a) => {
-            let ty = form_of_ty(alloc, ty)?;
-            let n = number(alloc, *n as u64)?;
-            let a = form_of_expr(alloc, a.get())?;
-            headed(alloc, b"alloc", row(alloc, [ty, n, a])?)
+            let ty = form_of_ty(alloc, ty);
+            let a = form_of_expr(alloc, a.get());
+            ternary(alloc, b"alloc", ty, number(alloc, *n as u64), a)
         }
         Expr::While(c, a) => {
-            let c = form_of_expr(alloc, c.get())?;
-            let a = form_of_expr(alloc, a.get())?;
-            headed(alloc, b"while", row(alloc, [c, a])?)
+            let c = form_of_expr(alloc, c.get());
+            let a = form_of_expr(alloc, a.get());
+            binary(alloc, b"while", c, a)
         }
         Expr::For(name, a, b, c) => {
-            let a = form_of_expr(alloc, a.get())?;
-            let b = form_of_expr(alloc, b.get())?;
-            let c = form_of_expr(alloc, c.get())?;
-            headed_by_two(alloc, b"for", name.as_bytes(), row(alloc, [a, b, c])?)
+            let a = form_of_expr(alloc, a.get());
+            let b = form_of_expr(alloc, b.get());
+            let c = form_of_expr(alloc, c.get());
+            counting(alloc, name, a, b, c)
         }
         Expr::Call(name, tys, values) => {
-            let values = forms_of_exprs(alloc, values.as_slice())?;
+            let values = forms_of_exprs(alloc, values.as_slice());
             applied(alloc, b"call", name, tys.as_slice(), values)
         }
         Expr::Cases(_) | Expr::TagIs(_, _) | Expr::Part(_, _, _) | Expr::Fill(_, _) => {
@@ -182,14 +204,14 @@ fn forms_of_exprs(alloc: Global, exprs: &[Expr]) -> Result<Seq<Form>, NoMemory>
 
 /// The form of an item of a `do`.
 #[cycle(write)]
-fn form_of_item(alloc: Global, item: &Item) -> Result<Form, NoMemory>
+fn form_of_item(alloc: Global, item: &Item) -> Part
     ensures { IfOk result (λ form. form ≡ form_of_item item.now) }
 {
     match item {
         Item::Let(name, ty, value) => {
-            let ty = form_of_ty(alloc, ty)?;
-            let value = form_of_expr(alloc, value)?;
-            headed_by_two(alloc, b"let", name.as_bytes(), row(alloc, [ty, value])?)
+            let ty = form_of_ty(alloc, ty);
+            let value = form_of_expr(alloc, value);
+            ternary(alloc, b"let", word(alloc, name.as_bytes()), ty, value)
         }
         Item::Run(expr) => form_of_expr(alloc, expr),
     }
@@ -209,12 +231,12 @@ fn forms_of_items(alloc: Global, items: &[Item]) -> Result<Seq<Form>, NoMemory>
 
 /// The form of a branch of a `match`.
 #[cycle(write)]
-fn form_of_arm(alloc: Global, arm: &Arm) -> Result<Form, NoMemory>
+fn form_of_arm(alloc: Global, arm: &Arm) -> Part
     ensures { IfOk result (λ form. form ≡ form_of_arm arm.now) }
 {
-    let pat = form_of_pat(alloc, &arm.pat)?;
-    let body = form_of_expr(alloc, &arm.body)?;
-    Ok(Form::List(row(alloc, [pat, body])?))
+    let pat = form_of_pat(alloc, &arm.pat);
+    let body = form_of_expr(alloc, &arm.body);
+    list(alloc, [pat, body])
 }
 
 /// The forms of branches, in order.

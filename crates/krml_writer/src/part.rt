@@ -1,19 +1,23 @@
-ghost use Rattle.std.specs.Prelude.{◌≡◌, ◌∷◌, IfOk};
+ghost use Rattle.std.specs.Prelude.{◌≡◌, [], ◌∷◌, ◌++◌, IfOk, IsOkAnd, Ok, map};
 ghost use Rattle.std.specs.Fmt.{decimal};
+ghost use Rattle.krml_writer.specs.Parts.{AllOkAnd};
 
 use krml_forms::Form;
-use krml_trace::{Name, NoMemory, Seq};
+use krml_trace::{Name, NoMemory, Seq, both};
 use std::alloc::Global;
 
+/// A form, or want of memory.
+pub type Part = Result<Form, NoMemory>;
+
 /// A word.
-pub fn word(alloc: Global, bytes: &[u8]) -> Result<Form, NoMemory>
+pub fn word(alloc: Global, bytes: &[u8]) -> Part
     ensures { IfOk result (λ form. form ≡ Form.Atom bytes.now) }
 {
     Ok(Form::Atom(Seq::from_slice(alloc, bytes)?))
 }
 
 /// A number, in decimal digits.
-pub fn number(alloc: Global, n: u64) -> Result<Form, NoMemory>
+pub fn number(alloc: Global, n: u64) -> Part
     ensures { IfOk result (λ form. form ≡ Form.Atom (decimal n)) }
 {
     let digits = n.to_string(alloc)?;
@@ -21,7 +25,7 @@ pub fn number(alloc: Global, n: u64) -> Result<Form, NoMemory>
 }
 
 /// A type variable: a quote and its name.
-pub fn variable(alloc: Global, name: &Name) -> Result<Form, NoMemory>
+pub fn variable(alloc: Global, name: &Name) -> Part
     ensures { IfOk result (λ form. form ≡ Form.Atom (39 ∷ name.now)) }
 {
     let mut bytes = Seq::from_slice(alloc, b"'")?;
@@ -29,33 +33,56 @@ pub fn variable(alloc: Global, name: &Name) -> Result<Form, NoMemory>
     Ok(Form::Atom(bytes))
 }
 
-/// A list of a word and forms.
-pub fn headed(alloc: Global, head: &[u8], rest: Seq<Form>) -> Result<Form, NoMemory>
-    ensures { IfOk result (λ form. form ≡ Form.List (Form.Atom head.now ∷ rest)) }
+/// Forms in a row, from parts that have them.
+fn row<const N: usize>(alloc: Global, parts: [Part; N]) -> Result<Seq<Form>, NoMemory>
+    ensures { IfOk result (λ forms. parts.entry ≡ map Ok forms) }
 {
-    let mut forms = Seq::from_vec(Vec::from_array(alloc, [word(alloc, head)?])?);
-    forms.append(rest)?;
-    Ok(Form::List(forms))
+    let mut forms = Seq::new(alloc);
+    for part in Vec::from_array(alloc, parts)? {
+        forms.push(part?)?;
+    }
+    Ok(forms)
 }
 
-/// A list of two words and forms.
-pub fn headed_by_two(
+/// The list of its parts.
+#[tactic(auto, using(crate::proofs::Parts::all_ok_and))]
+pub fn list<const N: usize>(alloc: Global, parts: [Part; N]) -> Part
+    ensures { IfOk result (λ form. AllOkAnd parts.entry (λ forms. form ≡ Form.List forms)) }
+{
+    Ok(Form::List(row(alloc, parts)?))
+}
+
+/// The list of its first parts and of those that follow.
+#[tactic(auto, using(crate::proofs::Parts::all_ok_and))]
+pub fn list_with<const N: usize>(
     alloc: Global,
-    first: &[u8],
-    second: &[u8],
-    rest: Seq<Form>,
-) -> Result<Form, NoMemory>
-    ensures { IfOk result (λ form. form ≡ Form.List (Form.Atom first.now ∷ Form.Atom second.now ∷ rest)) }
+    first: [Part; N],
+    rest: Result<Seq<Form>, NoMemory>,
+) -> Part
+    ensures { IfOk result (λ form. IsOkAnd rest (λ rest. AllOkAnd first.entry (λ first. form ≡ Form.List (first ++ rest)))) }
 {
-    let head = [word(alloc, first)?, word(alloc, second)?];
-    let mut forms = Seq::from_vec(Vec::from_array(alloc, head)?);
+    let (mut forms, rest) = both(row(alloc, first), rest)?;
     forms.append(rest)?;
     Ok(Form::List(forms))
 }
 
-/// Forms in a row.
-pub fn row<const N: usize>(alloc: Global, forms: [Form; N]) -> Result<Seq<Form>, NoMemory>
-    ensures { IfOk result (λ row. row ≡ forms.entry) }
+/// A word and a part.
+pub fn unary(alloc: Global, head: &[u8], a: Part) -> Part
+    ensures { IfOk result (λ form. IsOkAnd a (λ a. form ≡ Form.List (Form.Atom head.now ∷ a ∷ []))) }
 {
-    Ok(Seq::from_vec(Vec::from_array(alloc, forms)?))
+    list(alloc, [word(alloc, head), a])
+}
+
+/// A word and two parts.
+pub fn binary(alloc: Global, head: &[u8], a: Part, b: Part) -> Part
+    ensures { IfOk result (λ form. IsOkAnd a (λ a. IsOkAnd b (λ b. form ≡ Form.List (Form.Atom head.now ∷ a ∷ b ∷ [])))) }
+{
+    list(alloc, [word(alloc, head), a, b])
+}
+
+/// A word and three parts.
+pub fn ternary(alloc: Global, head: &[u8], a: Part, b: Part, c: Part) -> Part
+    ensures { IfOk result (λ form. IsOkAnd a (λ a. IsOkAnd b (λ b. IsOkAnd c (λ c. form ≡ Form.List (Form.Atom head.now ∷ a ∷ b ∷ c ∷ []))))) }
+{
+    list(alloc, [word(alloc, head), a, b, c])
 }
