@@ -78,112 +78,132 @@ pub fn form_of_expr(alloc: Global, expr: &Expr) -> Part
         Expr::Unit => word(alloc, b"unit"),
         Expr::Bool(b) => word(alloc, bool_word(*b)),
         Expr::Num(int, n) => unary(alloc, int_word(*int), number(alloc, *n)),
-        Expr::Bin(op, int, a, b) => {
-            let a = form_of_expr(alloc, a.get());
-            let b = form_of_expr(alloc, b.get());
-            ternary(alloc, bin_word(*op), word(alloc, int_word(*int)), a, b)
-        }
-        Expr::Shift(left, int, a, b) => {
-            let a = form_of_expr(alloc, a.get());
-            let b = form_of_expr(alloc, b.get());
-            ternary(alloc, shift_word(*left), word(alloc, int_word(*int)), a, b)
-        }
-        Expr::Cmp(op, int, a, b) => {
-            let a = form_of_expr(alloc, a.get());
-            let b = form_of_expr(alloc, b.get());
-            ternary(alloc, cmp_word(*op), word(alloc, int_word(*int)), a, b)
-        }
-        Expr::Not(a) => {
-            let a = form_of_expr(alloc, a.get());
-            unary(alloc, b"not", a)
-        }
-        Expr::Cast(from, to, a) => {
-            let a = form_of_expr(alloc, a.get());
-            ternary(
-                alloc,
-                b"cast",
-                word(alloc, int_word(*from)),
-                word(alloc, int_word(*to)),
-                a,
-            )
-        }
-        Expr::Hide(int, a) => {
-            let a = form_of_expr(alloc, a.get());
-            binary(alloc, b"hide", word(alloc, int_word(*int)), a)
-        }
-        Expr::Make(name, tys, values) => {
-            let values = forms_of_exprs(alloc, values.as_slice());
-            applied(alloc, b"make", name, tys.as_slice(), values)
-        }
-        Expr::Get(field, a) => {
-            let a = form_of_expr(alloc, a.get());
-            binary(alloc, b"get", word(alloc, field.as_bytes()), a)
-        }
-        Expr::Con(name, tys, values) => {
-            let values = forms_of_exprs(alloc, values.as_slice());
-            applied(alloc, b"con", name, tys.as_slice(), values)
-        }
-        Expr::Read(a, b) => {
-            let a = form_of_expr(alloc, a.get());
-            let b = form_of_expr(alloc, b.get());
-            binary(alloc, b"read", a, b)
-        }
-        Expr::Write(a, b, c) => {
-            let a = form_of_expr(alloc, a.get());
-            let b = form_of_expr(alloc, b.get());
-            let c = form_of_expr(alloc, c.get());
-            ternary(alloc, b"write", a, b, c)
-        }
-        Expr::Slice(a, b, c) => {
-            let a = form_of_expr(alloc, a.get());
-            let b = form_of_expr(alloc, b.get());
-            let c = form_of_expr(alloc, c.get());
-            ternary(alloc, b"slice", a, b, c)
-        }
-        Expr::Tab(table, a) => {
-            let a = form_of_expr(alloc, a.get());
-            binary(alloc, b"tab", word(alloc, table.as_bytes()), a)
-        }
-        Expr::If(c, a, b) => {
-            let c = form_of_expr(alloc, c.get());
-            let a = form_of_expr(alloc, a.get());
-            let b = form_of_expr(alloc, b.get());
-            ternary(alloc, b"if", c, a, b)
-        }
-        Expr::Match(a, arms) => {
-            let a = form_of_expr(alloc, a.get());
-            let arms = forms_of_arms(alloc, arms.as_slice());
-            matching(alloc, a, arms)
-        }
-        Expr::Do(items, a) => {
-            let items = forms_of_items(alloc, items.as_slice());
-            let a = form_of_expr(alloc, a.get());
-            sequence(alloc, items, a)
-        }
-        Expr::Frame(slots, a) => {
-            let a = form_of_expr(alloc, a.get());
-            frame(alloc, slots.as_slice(), a)
-        }
-        Expr::Alloc(ty, n, a) => {
-            let ty = form_of_ty(alloc, ty);
-            let a = form_of_expr(alloc, a.get());
-            ternary(alloc, b"alloc", ty, number(alloc, *n as u64), a)
-        }
-        Expr::While(c, a) => {
-            let c = form_of_expr(alloc, c.get());
-            let a = form_of_expr(alloc, a.get());
-            binary(alloc, b"while", c, a)
-        }
-        Expr::For(name, a, b, c) => {
-            let a = form_of_expr(alloc, a.get());
-            let b = form_of_expr(alloc, b.get());
-            let c = form_of_expr(alloc, c.get());
-            counting(alloc, name, a, b, c)
-        }
-        Expr::Call(name, tys, values) => {
-            let values = forms_of_exprs(alloc, values.as_slice());
-            applied(alloc, b"call", name, tys.as_slice(), values)
-        }
+        Expr::Bin(op, int, a, b) => ternary(
+            alloc,
+            bin_word(*op),
+            word(alloc, int_word(*int)),
+            form_of_expr(alloc, a.get()),
+            form_of_expr(alloc, b.get()),
+        ),
+        Expr::Shift(left, int, a, b) => ternary(
+            alloc,
+            shift_word(*left),
+            word(alloc, int_word(*int)),
+            form_of_expr(alloc, a.get()),
+            form_of_expr(alloc, b.get()),
+        ),
+        Expr::Cmp(op, int, a, b) => ternary(
+            alloc,
+            cmp_word(*op),
+            word(alloc, int_word(*int)),
+            form_of_expr(alloc, a.get()),
+            form_of_expr(alloc, b.get()),
+        ),
+        Expr::Not(a) => unary(alloc, b"not", form_of_expr(alloc, a.get())),
+        Expr::Cast(from, to, a) => ternary(
+            alloc,
+            b"cast",
+            word(alloc, int_word(*from)),
+            word(alloc, int_word(*to)),
+            form_of_expr(alloc, a.get()),
+        ),
+        Expr::Hide(int, a) => binary(
+            alloc,
+            b"hide",
+            word(alloc, int_word(*int)),
+            form_of_expr(alloc, a.get()),
+        ),
+        Expr::Make(name, tys, values) => applied(
+            alloc,
+            b"make",
+            name,
+            tys.as_slice(),
+            forms_of_exprs(alloc, values.as_slice()),
+        ),
+        Expr::Get(field, a) => binary(
+            alloc,
+            b"get",
+            word(alloc, field.as_bytes()),
+            form_of_expr(alloc, a.get()),
+        ),
+        Expr::Con(name, tys, values) => applied(
+            alloc,
+            b"con",
+            name,
+            tys.as_slice(),
+            forms_of_exprs(alloc, values.as_slice()),
+        ),
+        Expr::Read(a, b) => binary(
+            alloc,
+            b"read",
+            form_of_expr(alloc, a.get()),
+            form_of_expr(alloc, b.get()),
+        ),
+        Expr::Write(a, b, c) => ternary(
+            alloc,
+            b"write",
+            form_of_expr(alloc, a.get()),
+            form_of_expr(alloc, b.get()),
+            form_of_expr(alloc, c.get()),
+        ),
+        Expr::Slice(a, b, c) => ternary(
+            alloc,
+            b"slice",
+            form_of_expr(alloc, a.get()),
+            form_of_expr(alloc, b.get()),
+            form_of_expr(alloc, c.get()),
+        ),
+        Expr::Tab(table, a) => binary(
+            alloc,
+            b"tab",
+            word(alloc, table.as_bytes()),
+            form_of_expr(alloc, a.get()),
+        ),
+        Expr::If(c, a, b) => ternary(
+            alloc,
+            b"if",
+            form_of_expr(alloc, c.get()),
+            form_of_expr(alloc, a.get()),
+            form_of_expr(alloc, b.get()),
+        ),
+        Expr::Match(a, arms) => matching(
+            alloc,
+            form_of_expr(alloc, a.get()),
+            forms_of_arms(alloc, arms.as_slice()),
+        ),
+        Expr::Do(items, a) => sequence(
+            alloc,
+            forms_of_items(alloc, items.as_slice()),
+            form_of_expr(alloc, a.get()),
+        ),
+        Expr::Frame(slots, a) => frame(alloc, slots.as_slice(), form_of_expr(alloc, a.get())),
+        Expr::Alloc(ty, n, a) => ternary(
+            alloc,
+            b"alloc",
+            form_of_ty(alloc, ty),
+            number(alloc, *n as u64),
+            form_of_expr(alloc, a.get()),
+        ),
+        Expr::While(c, a) => binary(
+            alloc,
+            b"while",
+            form_of_expr(alloc, c.get()),
+            form_of_expr(alloc, a.get()),
+        ),
+        Expr::For(name, a, b, c) => counting(
+            alloc,
+            name,
+            form_of_expr(alloc, a.get()),
+            form_of_expr(alloc, b.get()),
+            form_of_expr(alloc, c.get()),
+        ),
+        Expr::Call(name, tys, values) => applied(
+            alloc,
+            b"call",
+            name,
+            tys.as_slice(),
+            forms_of_exprs(alloc, values.as_slice()),
+        ),
         Expr::Cases(_) | Expr::TagIs(_, _) | Expr::Part(_, _, _) | Expr::Fill(_, _) => {
             Ok(nothing(alloc))
         }
