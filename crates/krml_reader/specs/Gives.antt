@@ -22,12 +22,6 @@ each_after read done (f ∷ fs) = do
 abbrev pub each_of : {X : Type 0} → (Form → Option X) → List Form → Option (List X)
 each_of read fs = each_after read [] fs
 
--- What a call that was given the next form answered, and left.
-abbrev pub Adds : {X : Type 0} → (Form → Option X) → List X → Form → Result (Unit {0}) NoTree → List X → Type 0
-Adds read old f (Ok u) new = (fs : List Form) → each_after read old (f ∷ fs) ≡ each_after read new fs
-Adds read old f (Err Unspelled) new = (fs : List Form) → each_after read old (f ∷ fs) ≡ None
-Adds read old f (Err NoMemory) new = Unit {0}
-
 -- a list is read by what stands in it
 abbrev pub list_in : {X : Type 0} → (List Form → Option X) → Form-F Form → Option X
 list_in read (Form-F.Atom w) = None

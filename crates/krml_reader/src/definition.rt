@@ -1,5 +1,5 @@
 ghost use Rattle.std.specs.Prelude.{◌≡◌};
-ghost use Rattle.krml_reader.specs.Gives.{Gives, Adds, each_of, below};
+ghost use Rattle.krml_reader.specs.Gives.{Gives, each_of, below};
 ghost use Rattle.krml_reader.specs.Words.{var_at, number_of_width};
 ghost use Rattle.krml_reader.specs.Definition.{vars_of, vars_at, field_by, field_at, fields_of, fields_at, con_by, con_at, cons_of, struct_of, sum_of, table_of, fun_of, entry_of, def_by, def_at};
 
@@ -11,20 +11,11 @@ use crate::types::{ty_at, tys_of};
 use crate::words::{int_at, number_of_width, var_at};
 use krml_forms::Form;
 use krml_syntax::{Con, Def, Field};
-use krml_trace::{Name, Seq, Width};
+use krml_trace::{Name, Seq, Width, both};
 use std::alloc::Global;
 
 /// How many levels a list in a definition may have.
 const MAX_INNER_LEVELS: u32 = 63;
-
-#[tactic(auto, unfolding(crate::specs::Gives::each_after))]
-fn add_var(alloc: Global, vars: &mut Seq<Name>, form: &Form) -> Result<(), NoTree>
-    ensures { Adds var_at vars.old form.now result vars.new }
-{
-    let var = var_at(alloc, form)?;
-    vars.push(var)?;
-    Ok(())
-}
 
 #[tactic(auto, unfolding(crate::specs::Gives::each_after))]
 fn vars_of(alloc: Global, forms: &[Form]) -> Result<Seq<Name>, NoTree>
@@ -32,7 +23,7 @@ fn vars_of(alloc: Global, forms: &[Form]) -> Result<Seq<Name>, NoTree>
 {
     let mut vars = Seq::new(alloc);
     for form in forms {
-        add_var(alloc, &mut vars, form)?;
+        vars.push(var_at(alloc, form)?)?;
     }
     Ok(vars)
 }
@@ -53,8 +44,7 @@ fn field_by(alloc: Global, levels: u32, forms: &[Form]) -> Result<Field, NoTree>
     let [name, ty] = forms else {
         return Err(NoTree::Unspelled);
     };
-    let name = name_at(alloc, name)?;
-    let ty = ty_at(alloc, levels, ty)?;
+    let (name, ty) = both(name_at(alloc, name), ty_at(alloc, levels, ty))?;
     Ok(Field { name, ty })
 }
 
@@ -78,21 +68,12 @@ fn field_at(alloc: Global, levels: u32, form: &Form) -> Result<Field, NoTree>
 }
 
 #[tactic(auto, unfolding(crate::specs::Gives::each_after))]
-fn add_field(alloc: Global, levels: u32, fields: &mut Seq<Field>, form: &Form) -> Result<(), NoTree>
-    ensures { Adds (field_at levels) fields.old form.now result fields.new }
-{
-    let field = field_at(alloc, levels, form)?;
-    fields.push(field)?;
-    Ok(())
-}
-
-#[tactic(auto, unfolding(crate::specs::Gives::each_after))]
 fn fields_of(alloc: Global, levels: u32, forms: &[Form]) -> Result<Seq<Field>, NoTree>
     ensures { Gives result (fields_of levels forms.now) }
 {
     let mut fields = Seq::new(alloc);
     for form in forms {
-        add_field(alloc, levels, &mut fields, form)?;
+        fields.push(field_at(alloc, levels, form)?)?;
     }
     Ok(fields)
 }
@@ -122,8 +103,7 @@ fn con_by(alloc: Global, levels: u32, forms: &[Form]) -> Result<Con, NoTree>
     let [name, args @ ..] = forms else {
         return Err(NoTree::Unspelled);
     };
-    let name = name_at(alloc, name)?;
-    let args = tys_of(alloc, levels, args)?;
+    let (name, args) = both(name_at(alloc, name), tys_of(alloc, levels, args))?;
     Ok(Con { name, args })
 }
 
@@ -147,33 +127,14 @@ fn con_at(alloc: Global, levels: u32, form: &Form) -> Result<Con, NoTree>
 }
 
 #[tactic(auto, unfolding(crate::specs::Gives::each_after))]
-fn add_con(alloc: Global, levels: u32, cons: &mut Seq<Con>, form: &Form) -> Result<(), NoTree>
-    ensures { Adds (con_at levels) cons.old form.now result cons.new }
-{
-    let con = con_at(alloc, levels, form)?;
-    cons.push(con)?;
-    Ok(())
-}
-
-#[tactic(auto, unfolding(crate::specs::Gives::each_after))]
 fn cons_of(alloc: Global, levels: u32, forms: &[Form]) -> Result<Seq<Con>, NoTree>
     ensures { Gives result (cons_of levels forms.now) }
 {
     let mut cons = Seq::new(alloc);
     for form in forms {
-        add_con(alloc, levels, &mut cons, form)?;
+        cons.push(con_at(alloc, levels, form)?)?;
     }
     Ok(cons)
-}
-
-#[tactic(auto, unfolding(crate::specs::Gives::each_after))]
-fn add_number(width: Width, numbers: &mut Seq<u64>, form: &Form) -> Result<(), NoTree>
-    ensures { Adds (number_of_width width) numbers.old form.now result numbers.new }
-{
-    match number_of_width(width, form) {
-        Some(number) => Ok(numbers.push(number)?),
-        None => Err(NoTree::Unspelled),
-    }
 }
 
 /// Numbers of a width.
@@ -183,7 +144,10 @@ fn numbers_of(alloc: Global, width: Width, forms: &[Form]) -> Result<Seq<u64>, N
 {
     let mut numbers = Seq::new(alloc);
     for form in forms {
-        add_number(width, &mut numbers, form)?;
+        let Some(number) = number_of_width(width, form) else {
+            return Err(NoTree::Unspelled);
+        };
+        numbers.push(number)?;
     }
     Ok(numbers)
 }
@@ -198,9 +162,9 @@ fn structure(alloc: Global, rest: &[Form]) -> Result<Def, NoTree>
     if fields.is_empty() {
         return Err(NoTree::Unspelled);
     }
-    let name = name_at(alloc, name)?;
-    let vars = vars_at(alloc, vars)?;
-    let fields = fields_of(alloc, MAX_INNER_LEVELS, fields)?;
+    let head = both(name_at(alloc, name), vars_at(alloc, vars));
+    let fields = fields_of(alloc, MAX_INNER_LEVELS, fields);
+    let ((name, vars), fields) = both(head, fields)?;
     Ok(Def::Struct { name, vars, fields })
 }
 
@@ -214,9 +178,9 @@ fn sum(alloc: Global, rest: &[Form]) -> Result<Def, NoTree>
     if cons.is_empty() {
         return Err(NoTree::Unspelled);
     }
-    let name = name_at(alloc, name)?;
-    let vars = vars_at(alloc, vars)?;
-    let cons = cons_of(alloc, MAX_INNER_LEVELS, cons)?;
+    let head = both(name_at(alloc, name), vars_at(alloc, vars));
+    let cons = cons_of(alloc, MAX_INNER_LEVELS, cons);
+    let ((name, vars), cons) = both(head, cons)?;
     Ok(Def::Sum { name, vars, cons })
 }
 

@@ -1,5 +1,5 @@
 ghost use Rattle.std.specs.Prelude.{◌≡◌, option_map};
-ghost use Rattle.krml_reader.specs.Gives.{Gives, Adds, each_of};
+ghost use Rattle.krml_reader.specs.Gives.{Gives, each_of};
 ghost use Rattle.krml_reader.specs.Expression.{variable_of, word_by, one_by, two_by, three_by, typed_by, operands_by, named_by, applied_by, num_of, cast_by, alloc_by, for_by, match_by, split_last, do_by, is_let, expr_at, list_at, arm_at, arm_list_at, arm_by, item_at, let_at, operation_at, access_at, control_at};
 
 use crate::keyword::{Keyword, keyword_at};
@@ -10,7 +10,7 @@ use crate::types::{ty_at, tys_at};
 use crate::words::{int_at, length_at, number_of_width};
 use krml_forms::Form;
 use krml_syntax::{Arm, Expr, IntTy, Item, Ty};
-use krml_trace::{Box, Name, Seq};
+use krml_trace::{Box, Name, Seq, both};
 use std::alloc::Global;
 
 fn variable(alloc: Global, word: &[u8]) -> Result<Expr, NoTree>
@@ -201,9 +201,7 @@ fn two(alloc: Global, levels: u32, rest: &[Form]) -> Result<(Box<Expr>, Box<Expr
     let [a, b] = rest else {
         return Err(NoTree::Unspelled);
     };
-    let a = boxed_at(alloc, levels, a)?;
-    let b = boxed_at(alloc, levels, b)?;
-    Ok((a, b))
+    both(boxed_at(alloc, levels, a), boxed_at(alloc, levels, b))
 }
 
 /// Three expressions.
@@ -218,9 +216,8 @@ fn three(
     let [a, b, c] = rest else {
         return Err(NoTree::Unspelled);
     };
-    let a = boxed_at(alloc, levels, a)?;
-    let b = boxed_at(alloc, levels, b)?;
-    let c = boxed_at(alloc, levels, c)?;
+    let first = both(boxed_at(alloc, levels, a), boxed_at(alloc, levels, b));
+    let ((a, b), c) = both(first, boxed_at(alloc, levels, c))?;
     Ok((a, b, c))
 }
 
@@ -254,8 +251,7 @@ fn operands(
     let Some(ty) = int_at(ty) else {
         return Err(NoTree::Unspelled);
     };
-    let a = boxed_at(alloc, levels, a)?;
-    let b = boxed_at(alloc, levels, b)?;
+    let (a, b) = both(boxed_at(alloc, levels, a), boxed_at(alloc, levels, b))?;
     Ok((ty, a, b))
 }
 
@@ -267,9 +263,7 @@ fn named(alloc: Global, levels: u32, rest: &[Form]) -> Result<(Name, Box<Expr>),
     let [name, a] = rest else {
         return Err(NoTree::Unspelled);
     };
-    let name = name_at(alloc, name)?;
-    let a = boxed_at(alloc, levels, a)?;
-    Ok((name, a))
+    both(name_at(alloc, name), boxed_at(alloc, levels, a))
 }
 
 /// A name, types between parentheses, and expressions.
@@ -280,20 +274,9 @@ fn applied(alloc: Global, levels: u32, rest: &[Form]) -> Result<(Name, Seq<Ty>, 
     let [name, tys, exprs @ ..] = rest else {
         return Err(NoTree::Unspelled);
     };
-    let name = name_at(alloc, name)?;
-    let tys = tys_at(alloc, levels, tys)?;
-    let exprs = exprs_of(alloc, levels, exprs)?;
+    let head = both(name_at(alloc, name), tys_at(alloc, levels, tys));
+    let ((name, tys), exprs) = both(head, exprs_of(alloc, levels, exprs))?;
     Ok((name, tys, exprs))
-}
-
-#[tactic(auto, unfolding(crate::specs::Gives::each_after))]
-#[cycle(expression)]
-fn add_expr(alloc: Global, levels: u32, exprs: &mut Seq<Expr>, form: &Form) -> Result<(), NoTree>
-    ensures { Adds (expr_at levels) exprs.old form.now result exprs.new }
-{
-    let expr = expr_at(alloc, levels, form)?;
-    exprs.push(expr)?;
-    Ok(())
 }
 
 #[tactic(auto, unfolding(crate::specs::Gives::each_after))]
@@ -303,7 +286,7 @@ fn exprs_of(alloc: Global, levels: u32, forms: &[Form]) -> Result<Seq<Expr>, NoT
 {
     let mut exprs = Seq::new(alloc);
     for form in forms {
-        add_expr(alloc, levels, &mut exprs, form)?;
+        exprs.push(expr_at(alloc, levels, form)?)?;
     }
     Ok(exprs)
 }
@@ -334,11 +317,9 @@ fn buffer(alloc: Global, levels: u32, rest: &[Form]) -> Result<Expr, NoTree>
     let [ty, len, first] = rest else {
         return Err(NoTree::Unspelled);
     };
-    let ty = ty_at(alloc, levels, ty)?;
-    let Some(len) = length_at(len) else {
-        return Err(NoTree::Unspelled);
-    };
-    let first = boxed_at(alloc, levels, first)?;
+    let len = length_at(len).ok_or(NoTree::Unspelled);
+    let elements = both(ty_at(alloc, levels, ty), len);
+    let ((ty, len), first) = both(elements, boxed_at(alloc, levels, first))?;
     Ok(Expr::Alloc(ty, len, first))
 }
 
@@ -350,10 +331,9 @@ fn count(alloc: Global, levels: u32, rest: &[Form]) -> Result<Expr, NoTree>
     let [name, first, end, body] = rest else {
         return Err(NoTree::Unspelled);
     };
-    let name = name_at(alloc, name)?;
-    let first = boxed_at(alloc, levels, first)?;
-    let end = boxed_at(alloc, levels, end)?;
-    let body = boxed_at(alloc, levels, body)?;
+    let from = both(name_at(alloc, name), boxed_at(alloc, levels, first));
+    let rest = both(boxed_at(alloc, levels, end), boxed_at(alloc, levels, body));
+    let ((name, first), (end, body)) = both(from, rest)?;
     Ok(Expr::For(name, first, end, body))
 }
 
@@ -380,19 +360,9 @@ fn arms_of(alloc: Global, levels: u32, forms: &[Form]) -> Result<Seq<Arm>, NoTre
 {
     let mut arms = Seq::new(alloc);
     for form in forms {
-        add_arm(alloc, levels, &mut arms, form)?;
+        arms.push(arm_at(alloc, levels, form)?)?;
     }
     Ok(arms)
-}
-
-#[tactic(auto, unfolding(crate::specs::Gives::each_after))]
-#[cycle(expression)]
-fn add_arm(alloc: Global, levels: u32, arms: &mut Seq<Arm>, form: &Form) -> Result<(), NoTree>
-    ensures { Adds (arm_at levels) arms.old form.now result arms.new }
-{
-    let arm = arm_at(alloc, levels, form)?;
-    arms.push(arm)?;
-    Ok(())
 }
 
 #[cycle(expression)]
@@ -424,8 +394,7 @@ fn arm(alloc: Global, levels: u32, forms: &[Form]) -> Result<Arm, NoTree>
     let [pat, body] = forms else {
         return Err(NoTree::Unspelled);
     };
-    let pat = pat_at(alloc, levels, pat)?;
-    let body = expr_at(alloc, levels, body)?;
+    let (pat, body) = both(pat_at(alloc, levels, pat), expr_at(alloc, levels, body))?;
     Ok(Arm { pat, body })
 }
 
@@ -450,8 +419,8 @@ fn sequence(alloc: Global, levels: u32, rest: &[Form]) -> Result<Expr, NoTree>
     if items.is_empty() {
         return Err(NoTree::Unspelled);
     }
-    let items = items_of(alloc, levels, items)?;
-    let last = boxed_at(alloc, levels, last)?;
+    let items = items_of(alloc, levels, items);
+    let (items, last) = both(items, boxed_at(alloc, levels, last))?;
     Ok(Expr::Do(items, last))
 }
 
@@ -462,19 +431,9 @@ fn items_of(alloc: Global, levels: u32, forms: &[Form]) -> Result<Seq<Item>, NoT
 {
     let mut items = Seq::new(alloc);
     for form in forms {
-        add_item(alloc, levels, &mut items, form)?;
+        items.push(item_at(alloc, levels, form)?)?;
     }
     Ok(items)
-}
-
-#[tactic(auto, unfolding(crate::specs::Gives::each_after))]
-#[cycle(expression)]
-fn add_item(alloc: Global, levels: u32, items: &mut Seq<Item>, form: &Form) -> Result<(), NoTree>
-    ensures { Adds (item_at levels) items.old form.now result items.new }
-{
-    let item = item_at(alloc, levels, form)?;
-    items.push(item)?;
-    Ok(())
 }
 
 fn is_let(forms: &[Form]) -> bool

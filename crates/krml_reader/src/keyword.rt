@@ -6,7 +6,7 @@ use krml_syntax::{BinOp, CmpOp, IntTy, bin_word, bool_word, cmp_word, int_word, 
 use krml_trace::Width;
 
 /// A word of the language.
-#[derive(Clone, Copy, Debug)]
+#[derive(Clone, Copy)]
 pub enum Keyword {
     Int(IntTy),
     Truth(bool),

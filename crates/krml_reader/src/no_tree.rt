@@ -1,7 +1,7 @@
 use krml_trace::NoMemory;
 
 /// Why a form was not read as a tree.
-#[derive(Debug, Drop)]
+#[derive(Drop)]
 pub enum NoTree {
     /// The form spells none.
     Unspelled,

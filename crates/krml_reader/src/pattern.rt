@@ -1,5 +1,5 @@
 ghost use Rattle.std.specs.Prelude.{◌≡◌};
-ghost use Rattle.krml_reader.specs.Gives.{Gives, Adds};
+ghost use Rattle.krml_reader.specs.Gives.{Gives};
 ghost use Rattle.krml_reader.specs.Pattern.{bound_of, word_by, atom_of, number_of, parts_at, con_at, make_at, pat_at, list_at, pats_of};
 
 use crate::keyword::{Keyword, keyword_at, keyword_of};
@@ -8,7 +8,7 @@ use crate::no_tree::NoTree;
 use crate::words::number_of_width;
 use krml_forms::Form;
 use krml_syntax::{IntTy, Pat};
-use krml_trace::{Name, Seq};
+use krml_trace::{Name, Seq, both};
 use std::alloc::Global;
 
 fn bound(alloc: Global, word: &[u8]) -> Result<Pat, NoTree>
@@ -83,9 +83,7 @@ fn parts(alloc: Global, levels: u32, rest: &[Form]) -> Result<(Name, Seq<Pat>), 
     let [name, forms @ ..] = rest else {
         return Err(NoTree::Unspelled);
     };
-    let name = name_at(alloc, name)?;
-    let pats = pats_of(alloc, levels, forms)?;
-    Ok((name, pats))
+    both(name_at(alloc, name), pats_of(alloc, levels, forms))
 }
 
 /// `(con C P..)`, behind its keyword.
@@ -108,22 +106,12 @@ fn make(alloc: Global, levels: u32, rest: &[Form]) -> Result<Pat, NoTree>
 
 #[tactic(auto, unfolding(crate::specs::Gives::each_after))]
 #[cycle(pattern)]
-fn add_pat(alloc: Global, levels: u32, pats: &mut Seq<Pat>, form: &Form) -> Result<(), NoTree>
-    ensures { Adds (pat_at levels) pats.old form.now result pats.new }
-{
-    let pat = pat_at(alloc, levels, form)?;
-    pats.push(pat)?;
-    Ok(())
-}
-
-#[tactic(auto, unfolding(crate::specs::Gives::each_after))]
-#[cycle(pattern)]
 fn pats_of(alloc: Global, levels: u32, forms: &[Form]) -> Result<Seq<Pat>, NoTree>
     ensures { Gives result (pats_of levels forms.now) }
 {
     let mut pats = Seq::new(alloc);
     for form in forms {
-        add_pat(alloc, levels, &mut pats, form)?;
+        pats.push(pat_at(alloc, levels, form)?)?;
     }
     Ok(pats)
 }

@@ -1,5 +1,5 @@
 ghost use Rattle.std.specs.Prelude.{◌≡◌};
-ghost use Rattle.krml_reader.specs.Gives.{Gives, Adds, below};
+ghost use Rattle.krml_reader.specs.Gives.{Gives, below};
 ghost use Rattle.krml_reader.specs.Types.{named_of, word_of, variable_of, atom_of, is_buf, buffer_by, applied_by, ty_at, list_at, tys_of, tys_at};
 
 use crate::keyword::{Keyword, keyword_at, keyword_of};
@@ -7,7 +7,7 @@ use crate::name::{name_at, name_of};
 use crate::no_tree::NoTree;
 use krml_forms::Form;
 use krml_syntax::Ty;
-use krml_trace::{Box, Seq};
+use krml_trace::{Box, Seq, both};
 use std::alloc::Global;
 
 /// A struct or a sum without type arguments.
@@ -102,19 +102,8 @@ fn applied(alloc: Global, levels: u32, head: &Form, rest: &[Form]) -> Result<Ty,
     if rest.is_empty() {
         return Err(NoTree::Unspelled);
     }
-    let name = name_at(alloc, head)?;
-    let args = tys_of(alloc, levels, rest)?;
+    let (name, args) = both(name_at(alloc, head), tys_of(alloc, levels, rest))?;
     Ok(Ty::Named(name, args))
-}
-
-#[tactic(auto, unfolding(crate::specs::Gives::each_after))]
-#[cycle(ty)]
-fn add_ty(alloc: Global, levels: u32, tys: &mut Seq<Ty>, form: &Form) -> Result<(), NoTree>
-    ensures { Adds (ty_at levels) tys.old form.now result tys.new }
-{
-    let ty = ty_at(alloc, levels, form)?;
-    tys.push(ty)?;
-    Ok(())
 }
 
 /// The types that forms spell, each of so many levels.
@@ -125,7 +114,7 @@ pub fn tys_of(alloc: Global, levels: u32, forms: &[Form]) -> Result<Seq<Ty>, NoT
 {
     let mut tys = Seq::new(alloc);
     for form in forms {
-        add_ty(alloc, levels, &mut tys, form)?;
+        tys.push(ty_at(alloc, levels, form)?)?;
     }
     Ok(tys)
 }

@@ -30,9 +30,6 @@ decreases-operands l = 16 * l.levels + 3
 abbrev pub decreases-named : goal.decreases-named
 decreases-named l = 16 * l.levels + 3
 
-abbrev pub decreases-add_expr : goal.decreases-add_expr
-decreases-add_expr l = 16 * l.levels + 2
-
 abbrev pub decreases-exprs_of : goal.decreases-exprs_of
 decreases-exprs_of l = 16 * l.levels + 3
 
@@ -57,9 +54,6 @@ decreases-arm_at l = 16 * l.levels + 1
 abbrev pub decreases-arm_list_at : goal.decreases-arm_list_at
 decreases-arm_list_at l = 16 * l.levels
 
-abbrev pub decreases-add_arm : goal.decreases-add_arm
-decreases-add_arm l = 16 * l.levels + 2
-
 abbrev pub decreases-arms_of : goal.decreases-arms_of
 decreases-arms_of l = 16 * l.levels + 3
 
@@ -71,9 +65,6 @@ decreases-binding l = 16 * l.levels
 
 abbrev pub decreases-item_at : goal.decreases-item_at
 decreases-item_at l = 16 * l.levels + 2
-
-abbrev pub decreases-add_item : goal.decreases-add_item
-decreases-add_item l = 16 * l.levels + 3
 
 abbrev pub decreases-items_of : goal.decreases-items_of
 decreases-items_of l = 16 * l.levels + 4

@@ -9,9 +9,6 @@ decreases-pat_at l = 8 * l.levels + 1
 abbrev pub decreases-list_at : goal.decreases-list_at
 decreases-list_at l = 8 * l.levels
 
-abbrev pub decreases-add_pat : goal.decreases-add_pat
-decreases-add_pat l = 8 * l.levels + 2
-
 abbrev pub decreases-pats_of : goal.decreases-pats_of
 decreases-pats_of l = 8 * l.levels + 3
 

@@ -15,9 +15,6 @@ decreases-buffer l = 8 * l.levels + 2
 abbrev pub decreases-applied : goal.decreases-applied
 decreases-applied l = 8 * l.levels + 4
 
-abbrev pub decreases-add_ty : goal.decreases-add_ty
-decreases-add_ty l = 8 * l.levels + 2
-
 abbrev pub decreases-tys_of : goal.decreases-tys_of
 decreases-tys_of l = 8 * l.levels + 3
 
