@@ -12,29 +12,35 @@ use krml_ctree::{CBin, CExpr, CmpKind};
 use krml_trace::{Box, NoMemory, Width};
 use std::alloc::Global;
 
+/// An expression of C, boxed from the start, so that an early return drops it by one call.
+pub type Term = Box<CExpr>;
+
+/// A number as C writes it.
+pub fn lit(alloc: Global, w: Width, n: u64) -> Result<Term, NoMemory>
+    ensures { IfOk result (λ r. r ≡ number_of w n) }
+{
+    Box::new(alloc, CExpr::Lit(w, n))
+}
+
 /// A number as one of a width. An error is want of memory, as in all that follows.
-pub fn cast(alloc: Global, w: Width, e: CExpr) -> Result<CExpr, NoMemory>
+pub fn cast(alloc: Global, w: Width, e: Term) -> Result<Term, NoMemory>
     ensures { IfOk result (λ r. r ≡ cast_to w e) }
 {
-    Ok(CExpr::Cast(w, Box::new(alloc, e)?))
+    Box::new(alloc, CExpr::Cast(w, e))
 }
 
 /// An operator and its operands.
-pub fn bin(alloc: Global, op: CBin, a: CExpr, b: CExpr) -> Result<CExpr, NoMemory>
+pub fn bin(alloc: Global, op: CBin, a: Term, b: Term) -> Result<Term, NoMemory>
     ensures { IfOk result (λ r. r ≡ binary_of op a b) }
 {
-    let a = Box::new(alloc, a)?;
-    let b = Box::new(alloc, b)?;
-    Ok(CExpr::Bin(op, a, b))
+    Box::new(alloc, CExpr::Bin(op, a, b))
 }
 
 /// A comparison, whose answer has width 8.
-pub fn cmp(alloc: Global, kind: CmpKind, a: CExpr, b: CExpr) -> Result<CExpr, NoMemory>
+pub fn cmp(alloc: Global, kind: CmpKind, a: Term, b: Term) -> Result<Term, NoMemory>
     ensures { IfOk result (λ r. r ≡ compared_by W8 kind a b) }
 {
-    let a = Box::new(alloc, a)?;
-    let b = Box::new(alloc, b)?;
-    Ok(CExpr::Cmp(Width::W8, kind, a, b))
+    Box::new(alloc, CExpr::Cmp(Width::W8, kind, a, b))
 }
 
 /// The width that numbers of a width are computed with at.
@@ -48,7 +54,7 @@ pub fn work(w: Width) -> Width
 }
 
 /// A number of a width at the width that it is computed with at.
-pub fn widen(alloc: Global, w: Width, e: CExpr) -> Result<CExpr, NoMemory>
+pub fn widen(alloc: Global, w: Width, e: Term) -> Result<Term, NoMemory>
     ensures { IfOk result (λ r. r ≡ widen w e) }
 {
     match w {
@@ -58,7 +64,7 @@ pub fn widen(alloc: Global, w: Width, e: CExpr) -> Result<CExpr, NoMemory>
 }
 
 /// A number that was computed for a width, at that width.
-pub fn narrow(alloc: Global, w: Width, e: CExpr) -> Result<CExpr, NoMemory>
+pub fn narrow(alloc: Global, w: Width, e: Term) -> Result<Term, NoMemory>
     ensures { IfOk result (λ r. r ≡ narrow w e) }
 {
     match w {
@@ -68,24 +74,24 @@ pub fn narrow(alloc: Global, w: Width, e: CExpr) -> Result<CExpr, NoMemory>
 }
 
 /// A number of a width that the source writes.
-pub fn literal(alloc: Global, w: Width, n: u64) -> Result<CExpr, NoMemory>
+pub fn literal(alloc: Global, w: Width, n: u64) -> Result<Term, NoMemory>
     ensures { IfOk result (λ r. r ≡ literal w n) }
 {
     match w {
-        Width::W8 => cast(alloc, Width::W8, CExpr::Lit(Width::W32, n)),
-        _ => Ok(CExpr::Lit(w, n)),
+        Width::W8 => cast(alloc, Width::W8, lit(alloc, Width::W32, n)?),
+        _ => lit(alloc, w, n),
     }
 }
 
 /// A Boolean.
-pub fn truth(alloc: Global, b: bool) -> Result<CExpr, NoMemory>
+pub fn truth(alloc: Global, b: bool) -> Result<Term, NoMemory>
     ensures { IfOk result (λ r. r ≡ truth b) }
 {
     literal(alloc, Width::W8, if b { 1 } else { 0 })
 }
 
 /// An operation on two numbers of a width, computed at the width for that.
-pub fn computed(alloc: Global, op: CBin, w: Width, a: CExpr, b: CExpr) -> Result<CExpr, NoMemory>
+pub fn computed(alloc: Global, op: CBin, w: Width, a: Term, b: Term) -> Result<Term, NoMemory>
     ensures { IfOk result (λ r. r ≡ narrow w (binary_of op (widen w a) (widen w b))) }
 {
     let a = widen(alloc, w, a)?;
@@ -95,7 +101,7 @@ pub fn computed(alloc: Global, op: CBin, w: Width, a: CExpr, b: CExpr) -> Result
 }
 
 /// All ones of a width where the highest bit of a number is 0, else 0.
-pub fn spread(alloc: Global, i: IntTy, e: CExpr) -> Result<CExpr, NoMemory>
+pub fn spread(alloc: Global, i: IntTy, e: Term) -> Result<Term, NoMemory>
     ensures { IfOk result (λ r. r ≡ spread i e) }
 {
     let w = work(i.width);
@@ -103,8 +109,10 @@ pub fn spread(alloc: Global, i: IntTy, e: CExpr) -> Result<CExpr, NoMemory>
         Width::W64 => 63,
         _ => 31,
     };
-    let highest = bin(alloc, CBin::Shr, e, CExpr::Lit(Width::W32, places))?;
-    let less = bin(alloc, CBin::Sub, highest, CExpr::Lit(w, 1))?;
+    let places = lit(alloc, Width::W32, places)?;
+    let highest = bin(alloc, CBin::Shr, e, places)?;
+    let one = lit(alloc, w, 1)?;
+    let less = bin(alloc, CBin::Sub, highest, one)?;
     narrow(alloc, i.width, less)
 }
 
@@ -130,7 +138,7 @@ pub fn kind(op: CmpOp) -> CmpKind
 }
 
 /// A shift: the value, and the number of places.
-pub fn shifted(alloc: Global, left: bool, w: Width, a: CExpr, b: CExpr) -> Result<CExpr, NoMemory>
+pub fn shifted(alloc: Global, left: bool, w: Width, a: Term, b: Term) -> Result<Term, NoMemory>
     ensures { IfOk result (λ r. r ≡ narrow w (binary_of (shift_op left) (widen w a) b)) }
 {
     let a = widen(alloc, w, a)?;
@@ -139,7 +147,7 @@ pub fn shifted(alloc: Global, left: bool, w: Width, a: CExpr, b: CExpr) -> Resul
 }
 
 /// A comparison of two numbers of a width.
-pub fn compared(alloc: Global, op: CmpOp, w: Width, a: CExpr, b: CExpr) -> Result<CExpr, NoMemory>
+pub fn compared(alloc: Global, op: CmpOp, w: Width, a: Term, b: Term) -> Result<Term, NoMemory>
     ensures { IfOk result (λ r. r ≡ compared_by W8 (kind op) (widen w a) (widen w b)) }
 {
     let a = widen(alloc, w, a)?;
@@ -148,16 +156,17 @@ pub fn compared(alloc: Global, op: CmpOp, w: Width, a: CExpr, b: CExpr) -> Resul
 }
 
 /// The other Boolean.
-pub fn opposite(alloc: Global, a: CExpr) -> Result<CExpr, NoMemory>
+pub fn opposite(alloc: Global, a: Term) -> Result<Term, NoMemory>
     ensures { IfOk result (λ r. r ≡ cast_to W8 (binary_of Xor (cast_to W32 a) (number_of W32 1))) }
 {
     let a = cast(alloc, Width::W32, a)?;
-    let e = bin(alloc, CBin::Xor, a, CExpr::Lit(Width::W32, 1))?;
+    let one = lit(alloc, Width::W32, 1)?;
+    let e = bin(alloc, CBin::Xor, a, one)?;
     cast(alloc, Width::W8, e)
 }
 
 /// A number of one width as one of another.
-pub fn converted(alloc: Global, from: Width, to: Width, a: CExpr) -> Result<CExpr, NoMemory>
+pub fn converted(alloc: Global, from: Width, to: Width, a: Term) -> Result<Term, NoMemory>
     ensures { IfOk result (λ r. r ≡ (if same_width from to then a else cast_to to a)) }
 {
     if from.is(to) {

@@ -121,7 +121,7 @@ fn function<'a>(
         name,
         params,
         body,
-        answer: Some(value),
+        answer: Some(value.into_inner()),
     })
 }
 
