@@ -1,5 +1,7 @@
 -- What an emitter does.
-use Rattle.std.specs.Prelude.{List, ◌++◌, []}
+use Rattle.std.specs.Prelude.{ℕ, ◌+◌, List, [], ◌∷◌, ◌++◌, if◌then◌else◌}
+use Rattle.krml_trace.specs.declared.width.Width.TheVariants.{W32}
+use Rattle.krml_syntax.specs.declared.tree.IntTy.{IntTy}
 use Rattle.krml_syntax.specs.declared.tree.Field.{Field}
 use Rattle.krml_syntax.specs.declared.tree.Item.{Item}
 use Rattle.krml_syntax.specs.declared.tree.Def.{Def}
@@ -7,12 +9,14 @@ use Rattle.krml_syntax.specs.declared.tree.Expr.TheFolds.{fold-Item}
 use Rattle.krml_ctree.specs.declared.tree.CBin.TheVariants as cop
 use Rattle.krml_ctree.specs.declared.tree.CExpr.{CExpr}
 use Rattle.krml_ctree.specs.declared.tree.CExpr.TheVariants as c
+use Rattle.krml_ctree.specs.declared.tree.CStatement.TheVariants as st
 use Rattle.krml_ctree.specs.declared.tree.CVar.{CVar}
 use Rattle.krml_ctree.specs.declared.tree.CProgram.{CProgram}
 use Rattle.krml_cstar.specs.declared.emitter.Emitter.{Emitter}
-use Rattle.krml_cstar.specs.declared.emitter.Given.{Given}
-use Rattle.krml_cstar.specs.declared.emitter.Apart.{Apart}
-use Rattle.krml_cstar.specs.Translation.{ctype, Comp, Out, Outs, ItemComp, ItemOut, code_step, item_step, structs_of, tables_of, funs_of}
+use Rattle.krml_cstar.specs.declared.given.Given.{Given}
+use Rattle.krml_cstar.specs.declared.given.Apart.{Apart}
+use Rattle.krml_ast.specs.Names.{fun_named}
+use Rattle.krml_cstar.specs.Translation.{ctype, var, plain, work, nothing, is_unit, result_of, Comp, Out, Outs, ItemComp, ItemOut, code_step, item_step, structs_of, tables_of, funs_of}
 
 -- the field of a struct
 abbrev pub field_code : Field → CVar
@@ -25,6 +29,17 @@ with_def defs def p = record { structs = p.structs ++ structs_of def; tables = p
 -- the highest bit is 1 where x is below y
 abbrev pub below : CExpr → CExpr → CExpr
 below x y = c.Bin cop.Or (c.Bin cop.Xor x y) (c.Bin cop.Xor (c.Bin cop.Sub x y) y)
+
+-- the highest bit is 1 where x is not 0
+abbrev pub differs : IntTy → CExpr → CExpr
+differs i x = c.Bin cop.Or x (c.Bin cop.Sub (c.Lit (work i.width) 0) x)
+
+-- a call, behind the statements of its arguments
+abbrev pub calling : List Def → List ℕ → List CExpr → ℕ → Out
+calling defs f es n =
+    let r = result_of (fun_named defs f) in
+    if is_unit r then record { code = st.Run f es ∷ []; value = nothing; ty = r; next = n }
+    else record { code = st.Call (var n (ctype r)) f es ∷ []; value = c.Var (plain n); ty = r; next = n + 1 }
 
 -- what an item becomes
 abbrev pub item_code : List Def → Item → ItemComp

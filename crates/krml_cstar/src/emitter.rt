@@ -1,49 +1,35 @@
 //! Statements of C for expressions.
 
-ghost use Rattle.std.specs.Prelude.{◌≡◌, ◌+◌, ◌∷◌, ◌++◌, [], IfOk, OnOk, map, if◌then◌else◌};
-ghost use Rattle.krml_trace.specs.declared.width.Width.TheVariants.{W8, W32};
-ghost use Rattle.krml_trace.specs.Width.{same_width};
-ghost use Rattle.krml_ctree.specs.declared.tree.CBin.TheVariants.{Xor};
+ghost use Rattle.std.specs.Prelude.{◌≡◌, ◌+◌, ◌∷◌, ◌++◌, [], IfOk, IsOkAnd, OnOk, map};
+ghost use Rattle.krml_trace.specs.declared.width.Width.TheVariants.{W8};
 ghost use Rattle.krml_syntax.specs.declared.tree.Ty.{out-Ty};
-ghost use Rattle.krml_syntax.specs.declared.tree.Ty.TheVariants.{Named as struct_type, Unit as unit_type, Int as int_type, Bool as bool_type};
+ghost use Rattle.krml_syntax.specs.declared.tree.Ty.TheVariants.{Unit as unit_type, Int as int_type};
 ghost use Rattle.krml_ast.specs.IsType.{u32 as word};
 ghost use Rattle.krml_ast.specs.Names.{fun_named, table_named};
 ghost use Rattle.krml_ctree.specs.Text.{width_type};
 ghost use Rattle.krml_ctree.specs.declared.tree.CmpKind.TheVariants.{Lt};
 ghost use Rattle.krml_ctree.specs.declared.tree.CType.TheVariants as ct;
-ghost use Rattle.krml_ctree.specs.declared.tree.CExpr.TheVariants.{Var as variable_of, Field as field_of, Build as struct_of, Cmp as compared_by, Bin as binary_of, Cast as cast_to, Lit as number_of};
+ghost use Rattle.krml_ctree.specs.declared.tree.CExpr.TheVariants.{Var as variable_of, Field as field_of, Cmp as compared_by};
 ghost use Rattle.krml_ctree.specs.declared.tree.CStatement.TheVariants as st;
-ghost use Rattle.krml_cstar.specs.Translation.{code_of, all, items as items_code, variable, look, ctype, plain, named, var, binary, field_type, looked_up, table_type, result_of, nothing, arm, divided, eq_mask, gte_mask, stepped, work, truth as truth_of, literal as literal_of, narrow as narrowed, widen as widened, shift_op, kind};
+ghost use Rattle.krml_cstar.specs.Translation.{code_of, all, items as items_code, variable, look, ctype, plain, named, var, binary, field_type, looked_up, table_type, result_of, nothing, arm, divided, eq_mask, gte_mask, stepped, work};
 ghost use Rattle.krml_cstar.specs.Scopes.{cut};
-ghost use Rattle.krml_cstar.specs.Emitting.{item_code, behind, after, after_all, after_items, beside, below, given, apart, alone};
+ghost use Rattle.krml_cstar.specs.Emitting.{item_code, behind, after, after_all, after_items, beside, below, given, apart, alone, calling, differs};
 
-use crate::names::{copy, named, plain};
-use crate::numbers::{
-    Term, bin, cmp, compared, computed, converted, lit, literal, narrow, opposite, shifted, spread,
-    truth, widen, work,
+use crate::given::{
+    Apart, Branch, Given, Part, behind, boolean, built, comparison, conversion, negation, no_value,
+    nothing, number, shift, typed, value, with_code, with_type,
 };
+use crate::names::{copy, named, plain};
+use crate::numbers::{computed, narrow, spread, widen, work};
 use crate::scope::{Local, Scope};
-use crate::types::{ctype, is_unit};
-use krml_ast::{BinOp, CmpOp, Expr, IntTy, Item, Names, Ty, clone_ty, field_named};
-use krml_ctree::{CArm, CBin, CExpr, CStatement, CType, CVar, CmpKind};
-use krml_trace::{Box, Name, NoMemory, Seq, Width};
+use crate::statements::{Code, chain, ended, repeated, set};
+use crate::terms::{Term, Values, bin, cmp, field, lit, var};
+use crate::types::{SourceType, copied, ctype, cvar, is_unit};
+use krml_ast::{BinOp, Expr, IntTy, Item, Names, Ty, field_named};
+use krml_ctree::{CBin, CExpr, CStatement, CType, CVar, CmpKind};
+use krml_trace::{Box, Name, NoMemory, Seq, Width, both};
 use std::alloc::Global;
 use std::mem;
-
-/// What an expression gives: an expression of C, which is not looked at where there is nothing to give, and its type.
-#[derive(Drop)]
-pub struct Given {
-    pub value: Term,
-    pub ty: Box<Ty>,
-}
-
-/// The same with the statements that stand before it.
-#[derive(Drop)]
-pub struct Apart {
-    pub code: Seq<CStatement>,
-    pub value: Term,
-    pub ty: Box<Ty>,
-}
 
 /// The definitions of the file, the statements of a function so far, the variables in scope, and the number of the next variable.
 #[derive(Drop)]
@@ -53,86 +39,6 @@ pub struct Emitter<'n, 'a> {
     pub code: Seq<CStatement>,
     pub scope: Scope<'a>,
     pub next: u32,
-}
-
-/// Nothing of a type.
-fn nothing(alloc: Global, ty: Box<Ty>) -> Result<Given, NoMemory>
-    ensures { IfOk result (λ r. r ≡ record { value = nothing; ty = ty }) }
-{
-    let value = lit(alloc, Width::W32, 0)?;
-    Ok(Given { value, ty })
-}
-
-/// Nothing of the type of what gives nothing.
-fn no_value(alloc: Global) -> Result<Given, NoMemory>
-    ensures { IfOk result (λ r. r ≡ record { value = nothing; ty = unit_type }) }
-{
-    let ty = Box::new(alloc, Ty::Unit)?;
-    nothing(alloc, ty)
-}
-
-/// A value of a type.
-fn typed(alloc: Global, value: Term, ty: Ty) -> Result<Given, NoMemory>
-    ensures { IfOk result (λ r. r ≡ record { value = value; ty = ty }) }
-{
-    let ty = Box::new(alloc, ty)?;
-    Ok(Given { value, ty })
-}
-
-/// A Boolean.
-fn boolean(alloc: Global, b: bool) -> Result<Given, NoMemory>
-    ensures { IfOk result (λ r. r ≡ record { value = truth_of b; ty = bool_type }) }
-{
-    let value = truth(alloc, b)?;
-    typed(alloc, value, Ty::Bool)
-}
-
-/// A number of a type.
-fn number(alloc: Global, i: IntTy, n: u64) -> Result<Given, NoMemory>
-    ensures { IfOk result (λ r. r ≡ record { value = literal_of i.width n; ty = int_type i }) }
-{
-    let value = literal(alloc, i.width, n)?;
-    typed(alloc, value, Ty::Int(i))
-}
-
-/// A shift, and its type.
-fn shift(alloc: Global, left: bool, i: IntTy, a: Term, b: Term) -> Result<Given, NoMemory>
-    ensures { IfOk result (λ r. r ≡ record { value = narrowed i.width (binary_of (shift_op left) (widened i.width a) b); ty = int_type i }) }
-{
-    let value = shifted(alloc, left, i.width, a, b)?;
-    typed(alloc, value, Ty::Int(i))
-}
-
-/// A comparison, and its type.
-fn comparison(alloc: Global, op: CmpOp, i: IntTy, a: Term, b: Term) -> Result<Given, NoMemory>
-    ensures { IfOk result (λ r. r ≡ record { value = compared_by W8 (kind op) (widened i.width a) (widened i.width b); ty = bool_type }) }
-{
-    let value = compared(alloc, op, i.width, a, b)?;
-    typed(alloc, value, Ty::Bool)
-}
-
-/// The other Boolean, and its type.
-fn negation(alloc: Global, a: Term) -> Result<Given, NoMemory>
-    ensures { IfOk result (λ r. r ≡ record { value = cast_to W8 (binary_of Xor (cast_to W32 a) (number_of W32 1)); ty = bool_type }) }
-{
-    let value = opposite(alloc, a)?;
-    typed(alloc, value, Ty::Bool)
-}
-
-/// A number as one of another type.
-fn conversion(alloc: Global, i: IntTy, j: IntTy, a: Term) -> Result<Given, NoMemory>
-    ensures { IfOk result (λ r. r ≡ record { value = if same_width i.width j.width then a else cast_to j.width a; ty = int_type j }) }
-{
-    let value = converted(alloc, i.width, j.width, a)?;
-    typed(alloc, value, Ty::Int(j))
-}
-
-/// A copy of a type.
-fn copied(alloc: Global, ty: &Ty) -> Result<Box<Ty>, NoMemory>
-    ensures { IfOk result (λ r. r ≡ ty.now) }
-{
-    let ty = clone_ty(alloc, ty)?;
-    Box::new(alloc, ty)
 }
 
 /// Whether an expression gives nothing.
@@ -168,10 +74,10 @@ impl<'n, 'a> Emitter<'n, 'a> {
     }
 
     /// One statement more.
-    fn put(&mut self, statement: CStatement) -> Result<(), NoMemory>
-        ensures { OnOk result (self.new ≡ record self.old { code = self.old.code ++ statement ∷ [] }) }
+    fn put(&mut self, statement: Result<CStatement, NoMemory>) -> Result<(), NoMemory>
+        ensures { OnOk result (IsOkAnd statement (λ s. self.new ≡ record self.old { code = self.old.code ++ s ∷ [] })) }
     {
-        self.code.push(statement)
+        self.code.push(statement?)
     }
 
     /// The number of a new variable. One that does not fit is want of memory: no file within the limits leads there.
@@ -188,105 +94,128 @@ impl<'n, 'a> Emitter<'n, 'a> {
     }
 
     /// The variable of a number that the source does not have.
-    fn variable(&self, number: u32, ty: CType) -> Result<CVar, NoMemory>
-        ensures { IfOk result (λ r. r ≡ var number ty) }
+    fn variable(&self, number: u32, ty: Result<CType, NoMemory>) -> Result<CVar, NoMemory>
+        ensures { IfOk result (λ r. IsOkAnd ty (λ a. r ≡ var number a)) }
     {
-        let name = plain(self.alloc, number)?;
-        Ok(CVar { ty, name })
+        cvar(ty, plain(self.alloc, number))
     }
 
     /// Its value.
-    fn read(&self, number: u32) -> Result<Term, NoMemory>
+    fn read(&self, number: u32) -> Term
         ensures { IfOk result (λ r. r ≡ variable_of (plain number)) }
     {
-        let name = plain(self.alloc, number)?;
-        Box::new(self.alloc, CExpr::Var(name))
+        var(self.alloc, plain(self.alloc, number))
     }
 
     /// A variable of the source.
-    fn look(&self, x: &Name) -> Result<Given, NoMemory>
+    fn look(&self, x: &Name) -> Part
         ensures { IfOk result (λ r. r ≡ given (variable (look self.now.scope x.now) self.now.scope self.now.next)) }
     {
         match self.scope.look(x) {
             Some(local) => {
-                let ty = copied(self.alloc, &local.ty)?;
-                let name = copy(self.alloc, &local.emitted)?;
-                let value = Box::new(self.alloc, CExpr::Var(name))?;
-                Ok(Given { value, ty })
+                let value = var(self.alloc, copy(self.alloc, &local.emitted));
+                with_type(value, copied(self.alloc, &local.ty))
             }
             None => no_value(self.alloc),
         }
     }
 
+    /// Puts a variable with its value.
+    fn declare(&mut self, variable: Result<CVar, NoMemory>, e: Term) -> Result<(), NoMemory>
+        ensures { OnOk result (IsOkAnd variable (λ x. IsOkAnd e (λ e. self.new ≡ record self.old { code = self.old.code ++ st.Decl x e ∷ [] }))) }
+    {
+        let (variable, e) = both(variable, e)?;
+        self.put(Ok(CStatement::Decl(variable, e.into_inner())))
+    }
+
+    /// Puts a quotient, or a remainder, into a variable.
+    fn divide(
+        &mut self,
+        variable: Result<CVar, NoMemory>,
+        quotient: bool,
+        a: Term,
+        b: Term,
+    ) -> Result<(), NoMemory>
+        ensures { OnOk result (IsOkAnd variable (λ x. IsOkAnd a (λ a. IsOkAnd b (λ b. self.new ≡ record self.old { code = self.old.code ++ st.Div x quotient a b ∷ [] })))) }
+    {
+        let (variable, (a, b)) = both(variable, both(a, b))?;
+        let division = CStatement::Div(variable, quotient, a.into_inner(), b.into_inner());
+        self.put(Ok(division))
+    }
+
     /// A quotient or a remainder.
-    fn divided(&mut self, quotient: bool, i: IntTy, a: Term, b: Term) -> Result<Term, NoMemory>
-        ensures state { OnOk result (self.new ≡ behind (divided quotient i a b self.old.scope self.old.next) self.old) }
-        ensures value { IfOk result (λ r. r ≡ (divided quotient i a b self.old.scope self.old.next).value) }
+    fn divided(&mut self, quotient: bool, i: IntTy, a: Term, b: Term) -> Term
+        ensures state { OnOk result (IsOkAnd a (λ a. IsOkAnd b (λ b. self.new ≡ behind (divided quotient i a b self.old.scope self.old.next) self.old))) }
+        ensures value { IfOk result (λ r. IsOkAnd a (λ a. IsOkAnd b (λ b. r ≡ (divided quotient i a b self.old.scope self.old.next).value))) }
     {
         let n = self.fresh()?;
-        let a = widen(self.alloc, i.width, a)?;
-        let b = widen(self.alloc, i.width, b)?;
-        let variable = self.variable(n, CType::of(work(i.width)))?;
-        self.put(CStatement::Div(variable, quotient, a.into_inner(), b.into_inner()))?;
-        let x = self.read(n)?;
-        narrow(self.alloc, i.width, x)
+        let variable = self.variable(n, Ok(CType::of(work(i.width))));
+        let a = widen(self.alloc, i.width, a);
+        let b = widen(self.alloc, i.width, b);
+        self.divide(variable, quotient, a, b)?;
+        narrow(self.alloc, i.width, self.read(n))
     }
 
     /// A new variable of the width that numbers of a type are computed with at, with a value.
-    fn declare(&mut self, i: IntTy, e: Term) -> Result<u32, NoMemory>
-        ensures state { OnOk result (self.new ≡ record self.old { code = self.old.code ++ st.Decl (var self.old.next (width_type (work i.width))) e ∷ []; next = self.old.next + 1 }) }
+    fn hold(&mut self, i: IntTy, e: Term) -> Result<u32, NoMemory>
+        ensures state { OnOk result (IsOkAnd e (λ e. self.new ≡ record self.old { code = self.old.code ++ st.Decl (var self.old.next (width_type (work i.width))) e ∷ []; next = self.old.next + 1 })) }
         ensures value { IfOk result (λ n. n ≡ self.old.next) }
     {
         let n = self.fresh()?;
-        let variable = self.variable(n, CType::of(work(i.width)))?;
-        self.put(CStatement::Decl(variable, e.into_inner()))?;
+        let variable = self.variable(n, Ok(CType::of(work(i.width))));
+        self.declare(variable, e)?;
         Ok(n)
     }
 
     /// The mask of equality.
-    fn eq_mask(&mut self, i: IntTy, a: Term, b: Term) -> Result<Term, NoMemory>
-        ensures state { OnOk result (self.new ≡ behind (eq_mask i a b self.old.scope self.old.next) self.old) }
-        ensures value { IfOk result (λ r. r ≡ (eq_mask i a b self.old.scope self.old.next).value) }
+    fn eq_mask(&mut self, i: IntTy, a: Term, b: Term) -> Term
+        ensures state { OnOk result (IsOkAnd a (λ a. IsOkAnd b (λ b. self.new ≡ behind (eq_mask i a b self.old.scope self.old.next) self.old))) }
+        ensures value { IfOk result (λ r. IsOkAnd a (λ a. IsOkAnd b (λ b. r ≡ (eq_mask i a b self.old.scope self.old.next).value))) }
     {
         let alloc = self.alloc;
-        let a = widen(alloc, i.width, a)?;
-        let b = widen(alloc, i.width, b)?;
-        let x = self.declare(i, bin(alloc, CBin::Xor, a, b)?)?;
-        let zero = lit(alloc, work(i.width), 0)?;
-        let negated = bin(alloc, CBin::Sub, zero, self.read(x)?)?;
-        let either = bin(alloc, CBin::Or, self.read(x)?, negated)?;
-        spread(alloc, i, either)
+        let a = widen(alloc, i.width, a);
+        let b = widen(alloc, i.width, b);
+        let x = self.hold(i, bin(alloc, CBin::Xor, a, b))?;
+        spread(alloc, i, self.differs(i, x))
+    }
+
+    /// `x | (0 - x)`, whose highest bit is 1 where x is not 0.
+    fn differs(&self, i: IntTy, x: u32) -> Term
+        ensures { IfOk result (λ r. r ≡ differs i (variable_of (plain x))) }
+    {
+        let zero = lit(self.alloc, work(i.width), 0);
+        let negated = bin(self.alloc, CBin::Sub, zero, self.read(x));
+        bin(self.alloc, CBin::Or, self.read(x), negated)
     }
 
     /// `(x ^ y) | ((x - y) ^ y)`, whose highest bit is 1 where x is below y.
-    fn below(&self, x: u32, y: u32) -> Result<Term, NoMemory>
+    fn below(&self, x: u32, y: u32) -> Term
         ensures { IfOk result (λ r. r ≡ below (variable_of (plain x)) (variable_of (plain y))) }
     {
         let alloc = self.alloc;
-        let other = bin(alloc, CBin::Xor, self.read(x)?, self.read(y)?)?;
-        let less = bin(alloc, CBin::Sub, self.read(x)?, self.read(y)?)?;
-        let less = bin(alloc, CBin::Xor, less, self.read(y)?)?;
+        let other = bin(alloc, CBin::Xor, self.read(x), self.read(y));
+        let less = bin(alloc, CBin::Sub, self.read(x), self.read(y));
+        let less = bin(alloc, CBin::Xor, less, self.read(y));
         bin(alloc, CBin::Or, other, less)
     }
 
     /// The mask of `>=`.
-    fn gte_mask(&mut self, i: IntTy, a: Term, b: Term) -> Result<Term, NoMemory>
-        ensures state { OnOk result (self.new ≡ behind (gte_mask i a b self.old.scope self.old.next) self.old) }
-        ensures value { IfOk result (λ r. r ≡ (gte_mask i a b self.old.scope self.old.next).value) }
+    fn gte_mask(&mut self, i: IntTy, a: Term, b: Term) -> Term
+        ensures state { OnOk result (IsOkAnd a (λ a. IsOkAnd b (λ b. self.new ≡ behind (gte_mask i a b self.old.scope self.old.next) self.old))) }
+        ensures value { IfOk result (λ r. IsOkAnd a (λ a. IsOkAnd b (λ b. r ≡ (gte_mask i a b self.old.scope self.old.next).value))) }
     {
-        let a = widen(self.alloc, i.width, a)?;
-        let b = widen(self.alloc, i.width, b)?;
-        let x = self.declare(i, a)?;
-        let y = self.declare(i, b)?;
-        let below = self.below(x, y)?;
-        let e = bin(self.alloc, CBin::Xor, self.read(x)?, below)?;
+        let a = widen(self.alloc, i.width, a);
+        let b = widen(self.alloc, i.width, b);
+        let x = self.hold(i, a)?;
+        let y = self.hold(i, b)?;
+        let e = bin(self.alloc, CBin::Xor, self.read(x), self.below(x, y));
         spread(self.alloc, i, e)
     }
 
     /// The value of an operator on two operands.
-    fn operated(&mut self, op: BinOp, i: IntTy, a: Term, b: Term) -> Result<Term, NoMemory>
-        ensures state { OnOk result (self.new ≡ behind (binary op i a b self.old.scope self.old.next) self.old) }
-        ensures value { IfOk result (λ r. r ≡ (binary op i a b self.old.scope self.old.next).value) }
+    fn operated(&mut self, op: BinOp, i: IntTy, a: Term, b: Term) -> Term
+        ensures state { OnOk result (IsOkAnd a (λ a. IsOkAnd b (λ b. self.new ≡ behind (binary op i a b self.old.scope self.old.next) self.old))) }
+        ensures value { IfOk result (λ r. IsOkAnd a (λ a. IsOkAnd b (λ b. r ≡ (binary op i a b self.old.scope self.old.next).value))) }
     {
         let alloc = self.alloc;
         match op {
@@ -303,17 +232,17 @@ impl<'n, 'a> Emitter<'n, 'a> {
         }
     }
 
-    /// An operator on two operands, and its type.
-    fn binary(&mut self, op: BinOp, i: IntTy, a: Term, b: Term) -> Result<Given, NoMemory>
-        ensures state { OnOk result (self.new ≡ behind (binary op i a b self.old.scope self.old.next) self.old) }
-        ensures value { IfOk result (λ r. r ≡ record { value = (binary op i a b self.old.scope self.old.next).value; ty = int_type i }) }
+    /// An operator on two operands.
+    fn binary(&mut self, op: BinOp, i: IntTy, a: Part, b: Part) -> Part
+        ensures state { OnOk result (IsOkAnd a (λ a. IsOkAnd b (λ b. self.new ≡ behind (binary op i a.value b.value self.old.scope self.old.next) self.old))) }
+        ensures value { IfOk result (λ r. IsOkAnd a (λ a. IsOkAnd b (λ b. r ≡ record { value = (binary op i a.value b.value self.old.scope self.old.next).value; ty = int_type i }))) }
     {
-        let value = self.operated(op, i, a, b)?;
+        let value = self.operated(op, i, value(a), value(b));
         typed(self.alloc, value, Ty::Int(i))
     }
 
     /// The type of a field of a value of a type.
-    fn field_type(&self, y: &Name, a: &Ty) -> Result<Box<Ty>, NoMemory>
+    fn field_type(&self, y: &Name, a: &Ty) -> SourceType
         ensures { IfOk result (λ r. r ≡ field_type self.now.defs.now y.now (out-Ty a.now)) }
     {
         let Ty::Named(x, _) = a else {
@@ -329,18 +258,16 @@ impl<'n, 'a> Emitter<'n, 'a> {
     }
 
     /// A field of a value.
-    fn got(&self, y: &Name, a: Given) -> Result<Given, NoMemory>
-        ensures { IfOk result (λ r. r ≡ record { value = field_of a.value y.now; ty = field_type self.now.defs.now y.now (out-Ty a.ty) }) }
+    fn got(&self, y: &Name, a: Part) -> Part
+        ensures { IfOk result (λ r. IsOkAnd a (λ a. r ≡ record { value = field_of a.value y.now; ty = field_type self.now.defs.now y.now (out-Ty a.ty) })) }
     {
-        let Given { value, ty } = a;
-        let ty = self.field_type(y, ty.get())?;
-        let name = copy(self.alloc, y)?;
-        let value = Box::new(self.alloc, CExpr::Field(value, name))?;
-        Ok(Given { value, ty })
+        let Given { value, ty } = a?;
+        let ty = self.field_type(y, ty.get());
+        with_type(field(self.alloc, Ok(value), copy(self.alloc, y)), ty)
     }
 
     /// The type of the numbers in a table.
-    fn table_type(&self, x: &Name) -> Result<Box<Ty>, NoMemory>
+    fn table_type(&self, x: &Name) -> SourceType
         ensures { IfOk result (λ r. r ≡ table_type (table_named self.now.defs.now x.now)) }
     {
         match self.defs.table_named(x) {
@@ -349,23 +276,33 @@ impl<'n, 'a> Emitter<'n, 'a> {
         }
     }
 
-    /// A number of a table.
-    fn looked_up(&mut self, x: &Name, place: Given) -> Result<Given, NoMemory>
-        ensures state { OnOk result (self.new ≡ behind (looked_up self.old.defs.now x.now (alone place) self.old.scope self.old.next) self.old) }
-        ensures value { IfOk result (λ r. r ≡ given (looked_up self.old.defs.now x.now (alone place) self.old.scope self.old.next)) }
+    /// Puts a variable with a number of a table.
+    fn load(
+        &mut self,
+        variable: Result<CVar, NoMemory>,
+        x: &Name,
+        place: Term,
+    ) -> Result<(), NoMemory>
+        ensures { OnOk result (IsOkAnd variable (λ v. IsOkAnd place (λ e. self.new ≡ record self.old { code = self.old.code ++ st.Tab v x.now e ∷ [] }))) }
     {
-        let Given { value: place, .. } = place;
-        let ty = self.table_type(x)?;
+        let ((variable, x), place) = both(both(variable, copy(self.alloc, x)), place)?;
+        self.put(Ok(CStatement::Tab(variable, x, place.into_inner())))
+    }
+
+    /// A number of a table.
+    fn looked_up(&mut self, x: &Name, place: Part) -> Part
+        ensures state { OnOk result (IsOkAnd place (λ g. self.new ≡ behind (looked_up self.old.defs.now x.now (alone g) self.old.scope self.old.next) self.old)) }
+        ensures value { IfOk result (λ r. IsOkAnd place (λ g. r ≡ given (looked_up self.old.defs.now x.now (alone g) self.old.scope self.old.next))) }
+    {
         let n = self.fresh()?;
-        let x = copy(self.alloc, x)?;
-        let variable = self.variable(n, ctype(self.alloc, ty.get())?)?;
-        self.put(CStatement::Tab(variable, x, place.into_inner()))?;
-        let value = self.read(n)?;
-        Ok(Given { value, ty })
+        let ty = self.table_type(x)?;
+        let variable = self.variable(n, ctype(self.alloc, ty.get()));
+        self.load(variable, x, value(place))?;
+        with_type(self.read(n), Ok(ty))
     }
 
     /// The type of the result of a function.
-    fn result_of(&self, f: &Name) -> Result<Box<Ty>, NoMemory>
+    fn result_of(&self, f: &Name) -> SourceType
         ensures { IfOk result (λ r. r ≡ result_of (fun_named self.now.defs.now f.now)) }
     {
         match self.defs.fun_named(f) {
@@ -375,188 +312,189 @@ impl<'n, 'a> Emitter<'n, 'a> {
     }
 
     /// A call that gives nothing.
-    fn ran(&mut self, ty: Box<Ty>, f: &Name, values: Seq<CExpr>) -> Result<Given, NoMemory>
-        ensures state { OnOk result (self.new ≡ record self.old { code = self.old.code ++ st.Run f.now values ∷ [] }) }
+    fn ran(&mut self, ty: Box<Ty>, f: &Name, values: Values) -> Part
+        ensures state { OnOk result (IsOkAnd values (λ es. self.new ≡ record self.old { code = self.old.code ++ st.Run f.now es ∷ [] })) }
         ensures value { IfOk result (λ r. r ≡ record { value = nothing; ty = ty }) }
     {
-        let f = copy(self.alloc, f)?;
-        self.put(CStatement::Run(f, values))?;
-        nothing(self.alloc, ty)
+        let (f, values) = both(copy(self.alloc, f), values)?;
+        self.put(Ok(CStatement::Run(f, values)))?;
+        nothing(self.alloc, Ok(ty))
     }
 
     /// A call that gives a value.
-    fn called(&mut self, ty: Box<Ty>, f: &Name, values: Seq<CExpr>) -> Result<Given, NoMemory>
-        ensures state { OnOk result (self.new ≡ record self.old { code = self.old.code ++ st.Call (var self.old.next (ctype ty)) f.now values ∷ []; next = self.old.next + 1 }) }
+    fn called(&mut self, ty: Box<Ty>, f: &Name, values: Values) -> Part
+        ensures state { OnOk result (IsOkAnd values (λ es. self.new ≡ record self.old { code = self.old.code ++ st.Call (var self.old.next (ctype ty)) f.now es ∷ []; next = self.old.next + 1 })) }
         ensures value { IfOk result (λ r. r ≡ record { value = variable_of (plain self.old.next); ty = ty }) }
     {
         let n = self.fresh()?;
-        let f = copy(self.alloc, f)?;
-        let variable = self.variable(n, ctype(self.alloc, ty.get())?)?;
-        self.put(CStatement::Call(variable, f, values))?;
-        let value = self.read(n)?;
-        Ok(Given { value, ty })
+        let variable = self.variable(n, ctype(self.alloc, ty.get()));
+        let (variable, (f, values)) = both(variable, both(copy(self.alloc, f), values))?;
+        self.put(Ok(CStatement::Call(variable, f, values)))?;
+        with_type(self.read(n), Ok(ty))
     }
 
-    /// Puts `if (test) { body } else { rest }`.
-    fn chain(
-        &mut self,
-        test: Term,
-        body: Seq<CStatement>,
-        rest: Seq<CStatement>,
-    ) -> Result<(), NoMemory>
-        ensures { OnOk result (self.new ≡ record self.old { code = self.old.code ++ st.Chain (arm test body ∷ []) rest ∷ [] }) }
+    /// A call.
+    fn call(&mut self, f: &Name, values: Values) -> Part
+        ensures state { OnOk result (IsOkAnd values (λ es. self.new ≡ behind (calling self.old.defs.now f.now es self.old.next) self.old)) }
+        ensures value { IfOk result (λ r. IsOkAnd values (λ es. r ≡ given (calling self.old.defs.now f.now es self.old.next))) }
     {
-        let mut arms = Seq::new(self.alloc);
-        let test = test.into_inner();
-        arms.push(CArm { test, body })?;
-        self.put(CStatement::Chain(arms, rest))
+        let ty = self.result_of(f)?;
+        if is_unit(ty.get()) {
+            self.ran(ty, f, values)
+        } else {
+            self.called(ty, f, values)
+        }
     }
 
     /// A branch, and then its value into the variable of the result.
-    fn stored(&self, number: u32, branch: Apart) -> Result<Seq<CStatement>, NoMemory>
-        ensures { IfOk result (λ r. r ≡ branch.code ++ st.Set (plain number) branch.value ∷ []) }
+    fn stored(&self, number: u32, code: Seq<CStatement>, value: Box<CExpr>) -> Code
+        ensures { IfOk result (λ r. r ≡ code ++ st.Set (plain number) value ∷ []) }
     {
-        let Apart {
-            mut code,
-            value,
-            ..
-        } = branch;
-        let name = plain(self.alloc, number)?;
-        code.push(CStatement::Set(name, value.into_inner()))?;
-        Ok(code)
+        ended(code, set(plain(self.alloc, number), Ok(value)))
     }
 
-    /// A variable for a value of a type.
-    fn blank(&mut self, number: u32, ty: &Ty) -> Result<(), NoMemory>
-        ensures { OnOk result (self.new ≡ record self.old { code = self.old.code ++ st.Blank (var number (ctype ty.now)) ∷ [] }) }
+    /// Puts the variable of a result, and two branches that leave their value there.
+    fn settle(
+        &mut self,
+        number: u32,
+        ty: &Ty,
+        test: Term,
+        body: Code,
+        rest: Code,
+    ) -> Result<(), NoMemory>
+        ensures { OnOk result (IsOkAnd test (λ t. IsOkAnd body (λ yes. IsOkAnd rest (λ no. self.new ≡ record self.old {
+          code = (self.old.code ++ st.Blank (var number (ctype ty.now)) ∷ []) ++ st.Chain (arm t yes ∷ []) no ∷ [];
+        })))) }
     {
-        let variable = self.variable(number, ctype(self.alloc, ty)?)?;
-        self.put(CStatement::Blank(variable))
+        let variable = self.variable(number, ctype(self.alloc, ty))?;
+        self.put(Ok(CStatement::Blank(variable)))?;
+        self.put(chain(self.alloc, test, body, rest))
     }
 
-    /// Two branches that leave their value in a variable.
-    fn chosen(&mut self, number: u32, test: Term, yes: Apart, no: Apart) -> Result<Term, NoMemory>
-        ensures state { OnOk result (self.new ≡ record self.old {
-          code = self.old.code
-              ++ st.Chain (arm test (yes.code ++ st.Set (plain number) yes.value ∷ []) ∷ []) (no.code ++ st.Set (plain number) no.value ∷ []) ∷ [];
-        }) }
-        ensures value { IfOk result (λ r. r ≡ variable_of (plain number)) }
+    /// An `if` that gives nothing.
+    fn branched(&mut self, test: Part, yes: Branch, no: Branch) -> Part
+        ensures state { OnOk result (IsOkAnd test (λ t. IsOkAnd yes (λ yes. IsOkAnd no (λ no. self.new ≡ record self.old {
+          code = self.old.code ++ st.Chain (arm t.value yes.code ∷ []) no.code ∷ [];
+        })))) }
+        ensures value { IfOk result (λ r. IsOkAnd test (λ t. IsOkAnd yes (λ yes. r ≡ record { value = nothing; ty = yes.ty }))) }
     {
-        let body = self.stored(number, yes)?;
-        let rest = self.stored(number, no)?;
-        self.chain(test, body, rest)?;
-        self.read(number)
+        let (yes, no) = both(yes, no)?;
+        let chain = chain(self.alloc, value(test), Ok(yes.code), Ok(no.code));
+        self.put(chain)?;
+        nothing(self.alloc, Ok(yes.ty))
+    }
+
+    /// An `if` that gives the value of a variable, which each branch leaves there.
+    fn chosen(&mut self, number: Result<u32, NoMemory>, test: Part, yes: Branch, no: Branch) -> Part
+        ensures state { OnOk result (IsOkAnd number (λ k. IsOkAnd test (λ t. IsOkAnd yes (λ yes. IsOkAnd no (λ no. self.new ≡ record self.old {
+          code = (self.old.code ++ st.Blank (var k (ctype yes.ty)) ∷ [])
+              ++ st.Chain (arm t.value (yes.code ++ st.Set (plain k) yes.value ∷ []) ∷ []) (no.code ++ st.Set (plain k) no.value ∷ []) ∷ [];
+        }))))) }
+        ensures value { IfOk result (λ r. IsOkAnd number (λ k. IsOkAnd test (λ t. IsOkAnd yes (λ yes. r ≡ record { value = variable_of (plain k); ty = yes.ty })))) }
+    {
+        let (number, (yes, no)) = both(number, both(yes, no))?;
+        let body = self.stored(number, yes.code, yes.value);
+        let rest = self.stored(number, no.code, no.value);
+        self.settle(number, yes.ty.get(), value(test), body, rest)?;
+        with_type(self.read(number), Ok(yes.ty))
     }
 
     /// A new variable of the source, in scope from here on.
-    fn bind(&mut self, x: &'a Name, ty: Box<Ty>, value: Term) -> Result<(), NoMemory>
-        ensures { OnOk result (self.new ≡ record self.old {
-          code = self.old.code ++ st.Decl (record { ty = ctype ty; name = named self.old.next x.now }) value ∷ [];
-          scope = record { name = x.now; emitted = named self.old.next x.now; ty = ty } ∷ self.old.scope;
+    fn bind(&mut self, x: &'a Name, ty: SourceType, value: Term) -> Result<(), NoMemory>
+        ensures { OnOk result (IsOkAnd ty (λ a. IsOkAnd value (λ e. self.new ≡ record self.old {
+          code = self.old.code ++ st.Decl (record { ty = ctype a; name = named self.old.next x.now }) e ∷ [];
+          scope = record { name = x.now; emitted = named self.old.next x.now; ty = a } ∷ self.old.scope;
           next = self.old.next + 1;
-        }) }
+        }))) }
     {
         let n = self.fresh()?;
-        let name = named(self.alloc, n, x)?;
-        let emitted = copy(self.alloc, &name)?;
-        let variable = CVar {
-            ty: ctype(self.alloc, ty.get())?,
-            name,
-        };
-        self.put(CStatement::Decl(variable, value.into_inner()))?;
-        let local = Local {
+        let (ty, emitted) = both(ty, named(self.alloc, n, x))?;
+        let variable = cvar(ctype(self.alloc, ty.get()), copy(self.alloc, &emitted));
+        self.declare(variable, value)?;
+        self.scope.push(Local {
             name: x,
             emitted,
             ty: ty.into_inner(),
-        };
-        self.scope.push(local)
+        })
     }
 
     /// Leaves the oldest variables in scope, so many.
-    fn leave(&mut self, len: usize) -> Result<(), NoMemory>
-        ensures { OnOk result (self.new ≡ record self.old { scope = cut len self.old.scope }) }
+    fn leave(&mut self, len: usize)
+        ensures { self.new ≡ record self.old { scope = cut len self.old.scope } }
     {
         self.scope.cut(len);
-        Ok(())
     }
 
     /// The variable of a `for`, in scope from here on, and behind it the variable of its end.
-    fn range(&mut self, x: &'a Name, first: Term, end: Term) -> Result<u32, NoMemory>
-        ensures state { OnOk result (self.new ≡ record self.old {
-          code = (self.old.code ++ st.Decl (record { ty = ct.U32; name = named self.old.next x.now }) first ∷ []) ++ st.Decl (var (self.old.next + 1) ct.U32) end ∷ [];
+    fn range(&mut self, x: &'a Name, first: Part, end: Part) -> Result<u32, NoMemory>
+        ensures state { OnOk result (IsOkAnd first (λ a. IsOkAnd end (λ b. self.new ≡ record self.old {
+          code = (self.old.code ++ st.Decl (record { ty = ct.U32; name = named self.old.next x.now }) a.value ∷ []) ++ st.Decl (var (self.old.next + 1) ct.U32) b.value ∷ [];
           scope = record { name = x.now; emitted = named self.old.next x.now; ty = word } ∷ self.old.scope;
           next = self.old.next + 2;
-        }) }
+        }))) }
         ensures value { IfOk result (λ n. n ≡ self.old.next + 1) }
     {
-        let ty = Ty::Int(IntTy {
+        let word = IntTy {
             width: Width::W32,
             secret: false,
-        });
-        let ty = Box::new(self.alloc, ty)?;
-        self.bind(x, ty, first)?;
+        };
+        self.bind(x, Box::new(self.alloc, Ty::Int(word)), value(first))?;
         let n = self.fresh()?;
-        let variable = self.variable(n, CType::U32)?;
-        self.put(CStatement::Decl(variable, end.into_inner()))?;
+        let variable = self.variable(n, Ok(CType::U32));
+        self.declare(variable, value(end))?;
         Ok(n)
     }
 
     /// The value of the variable of a loop.
-    fn counter(&self, number: u32, x: &Name) -> Result<Term, NoMemory>
+    fn counter(&self, number: u32, x: &Name) -> Term
         ensures { IfOk result (λ r. r ≡ variable_of (named number x.now)) }
     {
-        let name = named(self.alloc, number, x)?;
-        Box::new(self.alloc, CExpr::Var(name))
+        var(self.alloc, named(self.alloc, number, x))
     }
 
     /// One more in the variable of a loop.
     fn step(&self, number: u32, x: &Name) -> Result<CStatement, NoMemory>
         ensures { IfOk result (λ r. r ≡ stepped (named number x.now)) }
     {
-        let i = self.counter(number, x)?;
-        let one = lit(self.alloc, Width::W32, 1)?;
-        let next = bin(self.alloc, CBin::Add, i, one)?;
-        let name = named(self.alloc, number, x)?;
-        Ok(CStatement::Set(name, next.into_inner()))
+        let one = lit(self.alloc, Width::W32, 1);
+        let next = bin(self.alloc, CBin::Add, self.counter(number, x), one);
+        set(named(self.alloc, number, x), next)
     }
 
     /// Puts the loop from the value of one variable up to that of another.
-    fn counted(
-        &mut self,
-        number: u32,
-        end: u32,
-        x: &Name,
-        body: Seq<CStatement>,
-    ) -> Result<(), NoMemory>
-        ensures { OnOk result (self.new ≡ record self.old {
+    fn counted(&mut self, number: u32, end: Result<u32, NoMemory>, x: &Name, body: Branch) -> Part
+        ensures state { OnOk result (IsOkAnd end (λ end. IsOkAnd body (λ body. self.new ≡ record self.old {
           code = self.old.code
-              ++ st.Loop [] (compared_by W8 Lt (variable_of (named number x.now)) (variable_of (plain end))) (body ++ stepped (named number x.now) ∷ []) ∷ [];
-        }) }
+              ++ st.Loop [] (compared_by W8 Lt (variable_of (named number x.now)) (variable_of (plain end))) (body.code ++ stepped (named number x.now) ∷ []) ∷ [];
+        }))) }
+        ensures value { IfOk result (λ r. r ≡ record { value = nothing; ty = unit_type }) }
     {
-        let alloc = self.alloc;
-        let mut body = body;
-        let limit = self.read(end)?;
-        let i = self.counter(number, x)?;
-        let test = cmp(alloc, CmpKind::Lt, i, limit)?;
-        let step = self.step(number, x)?;
-        body.push(step)?;
-        self.put(CStatement::Loop(Seq::new(alloc), test.into_inner(), body))
+        let (end, body) = both(end, body)?;
+        let body = ended(body.code, self.step(number, x));
+        let test = cmp(
+            self.alloc,
+            CmpKind::Lt,
+            self.counter(number, x),
+            self.read(end),
+        );
+        self.put(repeated(Ok(Seq::new(self.alloc)), test, body))?;
+        no_value(self.alloc)
     }
 
-    /// A struct.
-    fn built(&self, x: &Name, values: Seq<CExpr>) -> Result<Given, NoMemory>
-        ensures { IfOk result (λ r. r ≡ record { value = struct_of x.now values; ty = struct_type x.now [] }) }
+    /// A loop while a test is true.
+    fn tested(&mut self, test: Branch, body: Branch) -> Part
+        ensures state { OnOk result (IsOkAnd test (λ t. IsOkAnd body (λ body. self.new ≡ record self.old { code = self.old.code ++ st.Loop t.code t.value body.code ∷ [] }))) }
+        ensures value { IfOk result (λ r. r ≡ record { value = nothing; ty = unit_type }) }
     {
-        let name = copy(self.alloc, x)?;
-        let value = Box::new(self.alloc, CExpr::Build(name, values))?;
-        let name = copy(self.alloc, x)?;
-        let ty = Box::new(self.alloc, Ty::Named(name, Seq::new(self.alloc)))?;
-        Ok(Given { value, ty })
+        let (test, body) = both(test, body)?;
+        self.put(repeated(Ok(test.code), Ok(test.value), Ok(body.code)))?;
+        no_value(self.alloc)
     }
 
-    /// Puts an expression's statements, and gives its expression of C and its type. An error is want of memory.
+    /// Puts an expression's statements, and gives its expression of C and its type. An error is want of memory. The parts of an
+    /// expression are all gone through before an error is told, since what is put by then is not looked at.
     #[cycle(emit)]
-    pub fn expr(&mut self, e: &'a Expr) -> Result<Given, NoMemory>
+    pub fn expr(&mut self, e: &'a Expr) -> Part
         ensures state { OnOk result (self.new ≡ after (code_of self.old.defs.now e.now) self.old) }
         ensures value { IfOk result (λ r. r ≡ given ((code_of self.old.defs.now e.now).run self.old.scope self.old.next)) }
     {
@@ -564,225 +502,99 @@ impl<'n, 'a> Emitter<'n, 'a> {
             Expr::Var(x) => self.look(x),
             Expr::Bool(b) => boolean(self.alloc, *b),
             Expr::Num(i, n) => number(self.alloc, *i, *n),
-            Expr::Bin(..) => self.bin_code(e),
-            Expr::Shift(..) => self.shift_code(e),
-            Expr::Cmp(..) => self.cmp_code(e),
-            Expr::Not(..) => self.not_code(e),
-            Expr::Cast(..) => self.cast_code(e),
-            Expr::Make(..) => self.make_code(e),
-            Expr::Get(..) => self.get_code(e),
-            Expr::Tab(..) => self.tab_code(e),
-            Expr::If(..) => self.if_code(e),
-            Expr::Do(..) => self.do_code(e),
-            Expr::While(..) => self.while_code(e),
-            Expr::For(..) => self.for_code(e),
-            Expr::Call(..) => self.call_code(e),
+            Expr::Bin(op, i, a, b) => {
+                let a = self.expr(a.get());
+                let b = self.expr(b.get());
+                self.binary(*op, *i, a, b)
+            }
+            Expr::Shift(left, i, a, b) => {
+                let a = self.expr(a.get());
+                let b = self.expr(b.get());
+                shift(self.alloc, *left, *i, a, b)
+            }
+            Expr::Cmp(op, i, a, b) => {
+                let a = self.expr(a.get());
+                let b = self.expr(b.get());
+                comparison(self.alloc, *op, *i, a, b)
+            }
+            Expr::Not(a) => {
+                let a = self.expr(a.get());
+                negation(self.alloc, a)
+            }
+            Expr::Cast(i, j, a) => {
+                let a = self.expr(a.get());
+                conversion(self.alloc, *i, *j, a)
+            }
+            Expr::Make(x, _, es) => {
+                let values = self.all(es.as_slice());
+                built(self.alloc, x, values)
+            }
+            Expr::Get(y, a) => {
+                let a = self.expr(a.get());
+                self.got(y, a)
+            }
+            Expr::Tab(x, a) => {
+                let a = self.expr(a.get());
+                self.looked_up(x, a)
+            }
+            Expr::If(test, a, b) => {
+                let test = self.expr(test.get());
+                if gives_nothing(self.defs, a.get()) {
+                    let yes = self.apart(a.get());
+                    let no = self.apart(b.get());
+                    self.branched(test, yes, no)
+                } else {
+                    let number = self.fresh();
+                    let yes = self.apart(a.get());
+                    let no = self.apart(b.get());
+                    self.chosen(number, test, yes, no)
+                }
+            }
+            Expr::Do(items, a) => {
+                let before = self.scope.len();
+                let items = self.items(items.as_slice());
+                let last = self.expr(a.get());
+                self.leave(before);
+                behind(items, last)
+            }
+            Expr::While(test, a) => {
+                let test = self.apart(test.get());
+                let body = self.apart(a.get());
+                self.tested(test, body)
+            }
+            Expr::For(x, a, b, e) => {
+                let first = self.expr(a.get());
+                let end = self.expr(b.get());
+                let before = self.scope.len();
+                let number = self.next;
+                let end = self.range(x, first, end);
+                let body = self.apart(e.get());
+                self.leave(before);
+                self.counted(number, end, x, body)
+            }
+            Expr::Call(f, _, es) => {
+                let values = self.all(es.as_slice());
+                self.call(f, values)
+            }
             _ => no_value(self.alloc),
         }
     }
 
-    #[cycle(emit)]
-    fn bin_code(&mut self, e: &'a Expr) -> Result<Given, NoMemory>
-        ensures state { OnOk result (self.new ≡ after (code_of self.old.defs.now e.now) self.old) }
-        ensures value { IfOk result (λ r. r ≡ given ((code_of self.old.defs.now e.now).run self.old.scope self.old.next)) }
-    {
-        let Expr::Bin(op, i, a, b) = e else {
-            return Err(NoMemory);
-        };
-        let a = self.expr(a.get())?.value;
-        let b = self.expr(b.get())?.value;
-        self.binary(*op, *i, a, b)
-    }
-
-    #[cycle(emit)]
-    fn shift_code(&mut self, e: &'a Expr) -> Result<Given, NoMemory>
-        ensures state { OnOk result (self.new ≡ after (code_of self.old.defs.now e.now) self.old) }
-        ensures value { IfOk result (λ r. r ≡ given ((code_of self.old.defs.now e.now).run self.old.scope self.old.next)) }
-    {
-        let Expr::Shift(left, i, a, b) = e else {
-            return Err(NoMemory);
-        };
-        let a = self.expr(a.get())?.value;
-        let b = self.expr(b.get())?.value;
-        shift(self.alloc, *left, *i, a, b)
-    }
-
-    #[cycle(emit)]
-    fn cmp_code(&mut self, e: &'a Expr) -> Result<Given, NoMemory>
-        ensures state { OnOk result (self.new ≡ after (code_of self.old.defs.now e.now) self.old) }
-        ensures value { IfOk result (λ r. r ≡ given ((code_of self.old.defs.now e.now).run self.old.scope self.old.next)) }
-    {
-        let Expr::Cmp(op, i, a, b) = e else {
-            return Err(NoMemory);
-        };
-        let a = self.expr(a.get())?.value;
-        let b = self.expr(b.get())?.value;
-        comparison(self.alloc, *op, *i, a, b)
-    }
-
-    #[cycle(emit)]
-    fn not_code(&mut self, e: &'a Expr) -> Result<Given, NoMemory>
-        ensures state { OnOk result (self.new ≡ after (code_of self.old.defs.now e.now) self.old) }
-        ensures value { IfOk result (λ r. r ≡ given ((code_of self.old.defs.now e.now).run self.old.scope self.old.next)) }
-    {
-        let Expr::Not(a) = e else {
-            return Err(NoMemory);
-        };
-        let a = self.expr(a.get())?.value;
-        negation(self.alloc, a)
-    }
-
-    #[cycle(emit)]
-    fn cast_code(&mut self, e: &'a Expr) -> Result<Given, NoMemory>
-        ensures state { OnOk result (self.new ≡ after (code_of self.old.defs.now e.now) self.old) }
-        ensures value { IfOk result (λ r. r ≡ given ((code_of self.old.defs.now e.now).run self.old.scope self.old.next)) }
-    {
-        let Expr::Cast(i, j, a) = e else {
-            return Err(NoMemory);
-        };
-        let a = self.expr(a.get())?.value;
-        conversion(self.alloc, *i, *j, a)
-    }
-
-    #[cycle(emit)]
-    fn make_code(&mut self, e: &'a Expr) -> Result<Given, NoMemory>
-        ensures state { OnOk result (self.new ≡ after (code_of self.old.defs.now e.now) self.old) }
-        ensures value { IfOk result (λ r. r ≡ given ((code_of self.old.defs.now e.now).run self.old.scope self.old.next)) }
-    {
-        let Expr::Make(x, _, es) = e else {
-            return Err(NoMemory);
-        };
-        let values = self.all(es.as_slice())?;
-        self.built(x, values)
-    }
-
-    #[cycle(emit)]
-    fn get_code(&mut self, e: &'a Expr) -> Result<Given, NoMemory>
-        ensures state { OnOk result (self.new ≡ after (code_of self.old.defs.now e.now) self.old) }
-        ensures value { IfOk result (λ r. r ≡ given ((code_of self.old.defs.now e.now).run self.old.scope self.old.next)) }
-    {
-        let Expr::Get(y, a) = e else {
-            return Err(NoMemory);
-        };
-        let a = self.expr(a.get())?;
-        self.got(y, a)
-    }
-
-    #[cycle(emit)]
-    fn tab_code(&mut self, e: &'a Expr) -> Result<Given, NoMemory>
-        ensures state { OnOk result (self.new ≡ after (code_of self.old.defs.now e.now) self.old) }
-        ensures value { IfOk result (λ r. r ≡ given ((code_of self.old.defs.now e.now).run self.old.scope self.old.next)) }
-    {
-        let Expr::Tab(x, a) = e else {
-            return Err(NoMemory);
-        };
-        let a = self.expr(a.get())?;
-        self.looked_up(x, a)
-    }
-
-    #[cycle(emit)]
-    fn if_code(&mut self, e: &'a Expr) -> Result<Given, NoMemory>
-        ensures state { OnOk result (self.new ≡ after (code_of self.old.defs.now e.now) self.old) }
-        ensures value { IfOk result (λ r. r ≡ given ((code_of self.old.defs.now e.now).run self.old.scope self.old.next)) }
-    {
-        let Expr::If(test, a, b) = e else {
-            return Err(NoMemory);
-        };
-        let test = self.expr(test.get())?.value;
-        if gives_nothing(self.defs, a.get()) {
-            let yes = self.apart(a.get())?;
-            let no = self.apart(b.get())?;
-            self.chain(test, yes.code, no.code)?;
-            return nothing(self.alloc, yes.ty);
-        }
-        let number = self.fresh()?;
-        let yes = self.apart(a.get())?;
-        let no = self.apart(b.get())?;
-        let ty = copied(self.alloc, yes.ty.get())?;
-        self.blank(number, ty.get())?;
-        let value = self.chosen(number, test, yes, no)?;
-        Ok(Given { value, ty })
-    }
-
-    #[cycle(emit)]
-    fn do_code(&mut self, e: &'a Expr) -> Result<Given, NoMemory>
-        ensures state { OnOk result (self.new ≡ after (code_of self.old.defs.now e.now) self.old) }
-        ensures value { IfOk result (λ r. r ≡ given ((code_of self.old.defs.now e.now).run self.old.scope self.old.next)) }
-    {
-        let Expr::Do(items, a) = e else {
-            return Err(NoMemory);
-        };
-        let before = self.scope.len();
-        self.items(items.as_slice())?;
-        let given = self.expr(a.get())?;
-        self.leave(before)?;
-        Ok(given)
-    }
-
-    #[cycle(emit)]
-    fn while_code(&mut self, e: &'a Expr) -> Result<Given, NoMemory>
-        ensures state { OnOk result (self.new ≡ after (code_of self.old.defs.now e.now) self.old) }
-        ensures value { IfOk result (λ r. r ≡ given ((code_of self.old.defs.now e.now).run self.old.scope self.old.next)) }
-    {
-        let Expr::While(test, a) = e else {
-            return Err(NoMemory);
-        };
-        let test = self.apart(test.get())?;
-        let body = self.apart(a.get())?;
-        self.put(CStatement::Loop(test.code, test.value.into_inner(), body.code))?;
-        no_value(self.alloc)
-    }
-
-    #[cycle(emit)]
-    fn for_code(&mut self, e: &'a Expr) -> Result<Given, NoMemory>
-        ensures state { OnOk result (self.new ≡ after (code_of self.old.defs.now e.now) self.old) }
-        ensures value { IfOk result (λ r. r ≡ given ((code_of self.old.defs.now e.now).run self.old.scope self.old.next)) }
-    {
-        let Expr::For(x, a, b, e) = e else {
-            return Err(NoMemory);
-        };
-        let a = self.expr(a.get())?.value;
-        let b = self.expr(b.get())?.value;
-        let before = self.scope.len();
-        let number = self.next;
-        let end = self.range(x, a, b)?;
-        let body = self.apart(e.get())?;
-        self.leave(before)?;
-        self.counted(number, end, x, body.code)?;
-        no_value(self.alloc)
-    }
-
-    #[cycle(emit)]
-    fn call_code(&mut self, e: &'a Expr) -> Result<Given, NoMemory>
-        ensures state { OnOk result (self.new ≡ after (code_of self.old.defs.now e.now) self.old) }
-        ensures value { IfOk result (λ r. r ≡ given ((code_of self.old.defs.now e.now).run self.old.scope self.old.next)) }
-    {
-        let Expr::Call(f, _, es) = e else {
-            return Err(NoMemory);
-        };
-        let values = self.all(es.as_slice())?;
-        let ty = self.result_of(f)?;
-        if is_unit(ty.get()) {
-            return self.ran(ty, f, values);
-        }
-        self.called(ty, f, values)
-    }
-
     /// The same with the statements apart from those so far.
     #[cycle(emit)]
-    fn apart(&mut self, e: &'a Expr) -> Result<Apart, NoMemory>
+    fn apart(&mut self, e: &'a Expr) -> Branch
         ensures state { OnOk result (self.new ≡ beside ((code_of self.old.defs.now e.now).run self.old.scope self.old.next) self.old) }
         ensures value { IfOk result (λ r. r ≡ apart ((code_of self.old.defs.now e.now).run self.old.scope self.old.next)) }
     {
         let before = mem::replace(&mut self.code, Seq::new(self.alloc));
-        let Given { value, ty } = self.expr(e)?;
+        let part = self.expr(e);
         let code = mem::replace(&mut self.code, before);
-        Ok(Apart { code, value, ty })
+        with_code(code, part)
     }
 
     /// The values of expressions from left to right.
     #[cycle(emit)]
-    fn all(&mut self, es: &'a [Expr]) -> Result<Seq<CExpr>, NoMemory>
+    fn all(&mut self, es: &'a [Expr]) -> Values
         ensures state { OnOk result (self.new ≡ after_all (all (map (code_of self.old.defs.now) es.now) self.old.scope self.old.next) self.old) }
         ensures value { IfOk result (λ r. r ≡ (all (map (code_of self.old.defs.now) es.now) self.old.scope self.old.next).values) }
     {
@@ -811,14 +623,13 @@ impl<'n, 'a> Emitter<'n, 'a> {
     {
         match item {
             Item::Let(x, ty, e) => {
-                let value = self.expr(e)?.value;
-                let ty = copied(self.alloc, ty)?;
-                self.bind(x, ty, value)?;
+                let e = value(self.expr(e));
+                self.bind(x, copied(self.alloc, ty), e)
             }
             Item::Run(e) => {
                 self.expr(e)?;
+                Ok(())
             }
         }
-        Ok(())
     }
 }

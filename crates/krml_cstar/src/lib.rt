@@ -2,10 +2,13 @@
 #![tactic(auto)]
 
 mod emitter;
+mod given;
 mod names;
 mod numbers;
 mod program;
 mod scope;
+mod statements;
+mod terms;
 mod types;
 
 pub use program::to_cstar;

@@ -1,20 +1,22 @@
 //! Programs of C for files.
 
-ghost use Rattle.std.specs.Prelude.{◌≡◌, ◌≤◌, ◌^◌, length, IfOk, OnOk, map};
+ghost use Rattle.std.specs.Prelude.{◌≡◌, ◌≤◌, ◌^◌, length, Some, None, IfOk, OnOk, map, if◌then◌else◌};
 ghost use Rattle.krml_ctree.specs.WellFormed.{WellFormed};
 ghost use Rattle.krml_cstar.specs.Built.{AreBuilt};
 ghost use Rattle.krml_cstar.specs.Count.{variables_of, HaveFewVariables};
 ghost use Rattle.krml_cstar.specs.Theorem.{DoesTheSame};
-ghost use Rattle.krml_cstar.specs.Translation.{code_of, params_from, cvars, fun_code, program_of};
-ghost use Rattle.krml_cstar.specs.Emitting.{field_code, with_def};
+ghost use Rattle.krml_cstar.specs.Translation.{code_of, params_from, cvars, ctype, named, is_unit, fun_code, program_of};
+ghost use Rattle.krml_cstar.specs.Scopes.{known};
+ghost use Rattle.krml_cstar.specs.Emitting.{field_code, with_def, apart};
 
 use crate::emitter::Emitter;
+use crate::given::{Branch, with_code};
 use crate::names::{copy, named};
 use crate::scope::{Local, Scope};
-use crate::types::{ctype, is_unit};
-use krml_ast::{BundledFile, Def, Expr, Field, Names, SourceFile, Ty, clone_ty};
-use krml_ctree::{CFun, CProgram, CStruct, CTable, CVar};
-use krml_trace::{Name, NoMemory, Seq};
+use crate::types::{ctype, cvar, is_unit};
+use krml_ast::{BundledFile, Def, Expr, Field, IntTy, Names, SourceFile, Ty, clone_ty};
+use krml_ctree::{CExpr, CFun, CProgram, CStruct, CTable, CType, CVar};
+use krml_trace::{Box, Name, NoMemory, Seq, both};
 use std::alloc::Global;
 
 /// The fields of a struct.
@@ -23,9 +25,7 @@ fn members(alloc: Global, fields: &[Field]) -> Result<Seq<CVar>, NoMemory>
 {
     let mut all = Seq::new(alloc);
     for field in fields {
-        let ty = ctype(alloc, &field.ty)?;
-        let name = copy(alloc, &field.name)?;
-        all.push(CVar { ty, name })?;
+        all.push(cvar(ctype(alloc, &field.ty), copy(alloc, &field.name))?)?;
     }
     Ok(all)
 }
@@ -51,17 +51,36 @@ fn count(n: usize) -> Result<u32, NoMemory>
     }
 }
 
+/// A parameter as C has it.
+fn parameter(alloc: Global, k: usize, param: &Field) -> Result<CVar, NoMemory>
+    ensures { IfOk result (λ r. r ≡ record { ty = ctype param.now.ty; name = named k param.now.name }) }
+{
+    let k = count(k)?;
+    cvar(ctype(alloc, &param.ty), named(alloc, k, &param.name))
+}
+
 /// The parameters as C has them.
 fn variables(alloc: Global, params: &[Field]) -> Result<Seq<CVar>, NoMemory>
     ensures { IfOk result (λ r. r ≡ cvars (params_from 0 params.now)) }
 {
     let mut all = Seq::new(alloc);
     for (k, param) in params.iter().enumerate() {
-        let name = named(alloc, count(k)?, &param.name)?;
-        let ty = ctype(alloc, &param.ty)?;
-        all.push(CVar { ty, name })?;
+        all.push(parameter(alloc, k, param)?)?;
     }
     Ok(all)
+}
+
+/// A parameter in scope.
+fn local<'a>(alloc: Global, k: usize, param: &'a Field) -> Result<Local<'a>, NoMemory>
+    ensures { IfOk result (λ r. known r ≡ record { name = param.now.name; emitted = named k param.now.name; ty = param.now.ty }) }
+{
+    let k = count(k)?;
+    let (emitted, ty) = both(named(alloc, k, &param.name), clone_ty(alloc, &param.ty))?;
+    Ok(Local {
+        name: &param.name,
+        emitted,
+        ty,
+    })
 }
 
 /// The parameters in scope. The first one is the newest.
@@ -72,13 +91,7 @@ fn scope<'a>(alloc: Global, params: &'a [Field]) -> Result<Scope<'a>, NoMemory>
     let mut k = params.len();
     while k > 0 {
         k -= 1;
-        let param = &params[k];
-        let local = Local {
-            name: &param.name,
-            emitted: named(alloc, count(k)?, &param.name)?,
-            ty: clone_ty(alloc, &param.ty)?,
-        };
-        scope.push(local)?;
+        scope.push(local(alloc, k, &params[k])?)?;
     }
     Ok(scope)
 }
@@ -88,40 +101,81 @@ fn few(n: u32)
     ensures { n ≤ 2 ^ 64 }
 {}
 
+/// The body of a function.
+fn emitted<'a>(alloc: Global, defs: &Names<'a>, params: &'a [Field], body: &'a Expr) -> Branch
+    ensures value { IfOk result (λ r. r ≡ apart ((code_of defs.now body.now).run (params_from 0 params.now) (length params.now))) }
+    ensures few { IfOk result (λ r. ((code_of defs.now body.now).run (params_from 0 params.now) (length params.now)).next ≤ 2 ^ 64) }
+{
+    let (scope, next) = both(scope(alloc, params), count(params.len()))?;
+    let mut emitter = Emitter::new(alloc, defs, scope, next);
+    let given = emitter.expr(body)?;
+    few(emitter.next);
+    let Emitter { code, .. } = emitter;
+    with_code(code, Ok(given))
+}
+
+/// The type of what a function gives, where it gives something.
+fn result(alloc: Global, answer: &Ty) -> Result<Option<CType>, NoMemory>
+    ensures { IfOk result (λ r. r ≡ (if is_unit answer.now then None else Some (ctype answer.now))) }
+{
+    if is_unit(answer) {
+        return Ok(None);
+    }
+    Ok(Some(ctype(alloc, answer)?))
+}
+
+/// What a function gives, where it gives something.
+fn answer(ty: &Ty, value: Box<CExpr>) -> Option<CExpr>
+    ensures { result ≡ (if is_unit ty.now then None else Some value) }
+{
+    if is_unit(ty) {
+        None
+    } else {
+        Some(value.into_inner())
+    }
+}
+
 /// A function.
 fn function<'a>(
     alloc: Global,
     defs: &Names<'a>,
     x: &Name,
     params: &'a [Field],
-    answer: &Ty,
+    ty: &Ty,
     body: &'a Expr,
 ) -> Result<CFun, NoMemory>
-    ensures value { IfOk result (λ r. r ≡ fun_code defs.now x.now params.now answer.now body.now) }
+    ensures value { IfOk result (λ r. r ≡ fun_code defs.now x.now params.now ty.now body.now) }
     ensures few { IfOk result (λ r. ((code_of defs.now body.now).run (params_from 0 params.now) (length params.now)).next ≤ 2 ^ 64) }
 {
-    let scope = scope(alloc, params)?;
-    let mut emitter = Emitter::new(alloc, defs, scope, count(params.len())?);
-    let value = emitter.expr(body)?.value;
-    few(emitter.next);
-    let Emitter { code: body, .. } = emitter;
-    let name = copy(alloc, x)?;
-    let params = variables(alloc, params)?;
-    if is_unit(answer) {
-        return Ok(CFun {
-            result: None,
-            name,
-            params,
-            body,
-            answer: None,
-        });
-    }
+    let body = emitted(alloc, defs, params, body);
+    let (name, params) = both(copy(alloc, x), variables(alloc, params))?;
+    let (result, body) = both(result(alloc, ty), body)?;
     Ok(CFun {
-        result: Some(ctype(alloc, answer)?),
+        result,
         name,
         params,
-        body,
-        answer: Some(value.into_inner()),
+        body: body.code,
+        answer: answer(ty, body.value),
+    })
+}
+
+/// A struct.
+fn structure(alloc: Global, name: &Name, fields: &[Field]) -> Result<CStruct, NoMemory>
+    ensures { IfOk result (λ r. r ≡ record { name = name.now; fields = map field_code fields.now }) }
+{
+    let (name, fields) = both(copy(alloc, name), members(alloc, fields))?;
+    Ok(CStruct { name, fields })
+}
+
+/// A table.
+fn table(alloc: Global, name: &Name, ty: IntTy, nums: &[u64]) -> Result<CTable, NoMemory>
+    ensures { IfOk result (λ r. r ≡ record { name = name.now; width = ty.width; nums = nums.now }) }
+{
+    let (name, nums) = both(copy(alloc, name), numbers(alloc, nums))?;
+    Ok(CTable {
+        name,
+        width: ty.width,
+        nums,
     })
 }
 
@@ -137,18 +191,12 @@ fn add<'a>(
 {
     match def {
         Def::Struct { name, fields, .. } => {
-            let name = copy(alloc, name)?;
-            let fields = members(alloc, fields.as_slice())?;
-            program.structs.push(CStruct { name, fields })
+            let structure = structure(alloc, name, fields.as_slice())?;
+            program.structs.push(structure)
         }
         Def::Table { name, ty, nums } => {
-            let name = copy(alloc, name)?;
-            let nums = numbers(alloc, nums.as_slice())?;
-            program.tables.push(CTable {
-                name,
-                width: ty.width,
-                nums,
-            })
+            let table = table(alloc, name, *ty, nums.as_slice())?;
+            program.tables.push(table)
         }
         Def::Fun {
             name,

@@ -1,303 +1,234 @@
-use Rattle.std.proofs.Common.{Result, Ok, Err, IfOk, OnOk, rules, ◌≡◌, ℕ, suc, ◌+◌, ◌<◌, true, false, List, [], ◌∷◌, ◌++◌, map, length, drop, get_or, refl, sym, ap, ◌∙◌, arith}
+use Rattle.std.proofs.Common.{OnOk, IfOk, IsOkAnd, rules, ◌≡◌, ℕ, suc, ◌+◌, ◌<◌, true, false, List, [], ◌∷◌, ◌++◌, map, length, drop, get_or, refl, sym, ap, subst, ◌∙◌, arith}
 use Rattle.std.proofs.Math.Seq.{drop-cons}
 use Rattle.krml_trace.specs.declared.width.Width.TheVariants.{W8}
 use Rattle.krml_syntax.specs.declared.tree.Expr.{Expr}
-use Rattle.krml_syntax.specs.declared.tree.Ty.{Ty}
 use Rattle.krml_syntax.specs.declared.tree.Ty.TheVariants as ty
-use Rattle.krml_ast.specs.IsType.{u32}
-use Rattle.krml_ast.specs.Names.{fun_named}
-use Rattle.krml_ctree.specs.declared.tree.CmpKind.TheVariants as ck
-use Rattle.krml_ctree.specs.declared.tree.CType.TheVariants as ct
 use Rattle.krml_ctree.specs.declared.tree.CExpr.{CExpr}
 use Rattle.krml_ctree.specs.declared.tree.CExpr.TheVariants as ce
 use Rattle.krml_ctree.specs.declared.tree.CStatement.TheVariants as st
 use Rattle.krml_cstar.specs.declared.emitter.Emitter.{Emitter}
-use Rattle.krml_cstar.specs.declared.emitter.Given.{Given}
-use Rattle.krml_cstar.specs.declared.emitter.Apart.{Apart}
-use Rattle.krml_cstar.specs.Translation.{Comp, Outs, code_of, all, items, gives, does, operands, operand, binary, shifted, compared, looked_up, choice, block, while, for, call, nothing, result_of, is_unit, ctype, plain, named, var, widen, narrow, shift_op, kind, arm, stepped}
+use Rattle.krml_cstar.specs.declared.given.Given.{Given}
+use Rattle.krml_cstar.specs.Translation.{Outs, code_of, all, items, binary, shifted, compared, looked_up, nothing, ctype, plain, var, widen, narrow, shift_op, kind, arm}
 use Rattle.krml_cstar.specs.Scopes.{cut}
-use Rattle.krml_cstar.specs.Emitting.{item_code, behind, after, after_all, after_items, beside, given, apart, alone}
-use Rattle.krml_cstar.proofs.Emits.{bin_is, shift_is, cmp_is, tab_is, if_is, do_is, while_is, for_is, call_is, two_state, two_value, two_alone, tab_state, if_unit_state, if_unit_value, if_value_state, if_value_value, do_state, do_value, while_state, for_state, ran_state, called_state, all_step}
+use Rattle.krml_cstar.specs.Emitting.{item_code, behind, after, after_all, after_items, beside, given, apart, alone, calling}
+use Rattle.krml_cstar.proofs.Emits.{bin_is, shift_is, cmp_is, tab_is, if_is, do_is, while_is, for_is, call_is, binary_ty, two_state, two_value, two_alone, tab_state, if_unit_state, if_unit_value, if_value_state, if_value_value, do_state, do_value, while_state, for_state, call_state, call_value, all_step}
 use Rattle.krml_cstar.proofs.emitter.Emitter.+emit.Goals as goal
-use Rattle.krml_syntax.specs.declared.tree.BinOp.{BinOp}
-use Rattle.krml_syntax.specs.declared.tree.BinOp.TheVariants as op
-use Rattle.krml_syntax.specs.declared.tree.IntTy.{IntTy}
-use Rattle.krml_cstar.specs.Translation.{Known}
 
-always : {A E : Type 0} (r : Result A E) {Q : Type 0} → Q → OnOk r Q
-always (Ok a) q = q
-always (Err e) q = tt
-
-on_ok : {A E : Type 0} (r : Result A E) {P Q : Type 0} → (P → Q) → OnOk r P → OnOk r Q
-on_ok (Ok a) f p = f p
-on_ok (Err e) f p = tt
-
-if_ok : {A E : Type 0} (r : Result A E) {P Q : A → Type 0} → ((a : A) → P a → Q a) → IfOk r P → IfOk r Q
-if_ok (Ok a) f p = f a p
-if_ok (Err e) f p = tt
-
-binary_ty : (o : BinOp) (i : IntTy) (a b : CExpr) (names : List Known) (n : ℕ) → (binary o i a b names n).ty ≡ ty.Int i
-binary_ty op.Add i a b names n = refl
-binary_ty op.Sub i a b names n = refl
-binary_ty op.Mul i a b names n = refl
-binary_ty op.Div i a b names n = refl
-binary_ty op.Rem i a b names n = refl
-binary_ty op.And i a b names n = refl
-binary_ty op.Or i a b names n = refl
-binary_ty op.Xor i a b names n = refl
-binary_ty op.EqMask i a b names n = refl
-binary_ty op.GteMask i a b names n = refl
-
-pub bin_code-returns-clause-state : goal.bin_code-returns-clause-state
-bin_code-returns-clause-state t c =
+pub expr-returns-in-Bin-clause-state : goal.expr-returns-in-Bin-clause-state
+expr-returns-in-Bin-clause-state t c =
     let m : Emitter = c.args.self.now in
-    let m1 : Emitter = c.expr.new.self in
-    let m2 : Emitter = c.expr-2.new.self in
+    let m1 : Emitter = c.expr-a.new.self in
+    let m2 : Emitter = c.expr-b.new.self in
     let v = c.in-Bin in
-    let va : CExpr = c.in_ok-a.field-0.value in
-    let vb : CExpr = c.in_ok-b.field-0.value in
-    let h1 : m1 ≡ after (code_of m.defs.now v.a) m = search rules in
-    let ha : va ≡ ((code_of m.defs.now v.a).run m.scope m.next).value = search rules in
-    let h2 : m2 ≡ after (code_of m1.defs.now v.b) m1 = search rules in
-    let hb : vb ≡ ((code_of m1.defs.now v.b).run m1.scope m1.next).value = search rules in
-    let is : code_of m.defs.now c.args.e.now ≡ gives (operands (code_of m.defs.now v.a) (code_of m.defs.now v.b) (binary v.op v.i)) = ap (code_of m.defs.now) v.is ∙ bin_is m.defs.now v.op v.i v.a v.b in
-    on_ok c.binary.result (λ (h3 : c.binary.new.self ≡ behind (binary v.op v.i va vb m2.scope m2.next) m2). two_state (λ ds. code_of ds v.a) (λ ds. code_of ds v.b) (binary v.op v.i) m m1 m2 c.binary.new.self va vb h1 ha h2 hb h3 ∙ sym (ap (λ (k : Comp). after k m) is)) c.binary.ensures.state
+    let is = ap (code_of m.defs.now) v.is ∙ bin_is m.defs.now v.op v.i v.a v.b in
+    let h1 : OnOk c.expr-a.result (m1 ≡ after (code_of m.defs.now v.a) m) = search rules in
+    let ha : IfOk c.expr-a.result (λ g. g ≡ given ((code_of m.defs.now v.a).run m.scope m.next)) = search rules in
+    let h2 : OnOk c.expr-b.result (m2 ≡ after (code_of m1.defs.now v.b) m1) = search rules in
+    let hb : IfOk c.expr-b.result (λ g. g ≡ given ((code_of m1.defs.now v.b).run m1.scope m1.next)) = search rules in
+    two_state (λ ds. code_of ds v.a) (λ ds. code_of ds v.b) (binary v.op v.i) _ m m1 m2 c.binary.new.self c.binary.result c.expr-a.result c.expr-b.result is h1 ha h2 hb c.binary.ensures.state
 
-pub bin_code-returns-clause-value : goal.bin_code-returns-clause-value
-bin_code-returns-clause-value t c =
+pub expr-returns-in-Bin-clause-value : goal.expr-returns-in-Bin-clause-value
+expr-returns-in-Bin-clause-value t c =
     let m : Emitter = c.args.self.now in
-    let m1 : Emitter = c.expr.new.self in
-    let m2 : Emitter = c.expr-2.new.self in
+    let m1 : Emitter = c.expr-a.new.self in
+    let m2 : Emitter = c.expr-b.new.self in
     let v = c.in-Bin in
-    let va : CExpr = c.in_ok-a.field-0.value in
-    let vb : CExpr = c.in_ok-b.field-0.value in
-    let h1 : m1 ≡ after (code_of m.defs.now v.a) m = search rules in
-    let ha : va ≡ ((code_of m.defs.now v.a).run m.scope m.next).value = search rules in
-    let h2 : m2 ≡ after (code_of m1.defs.now v.b) m1 = search rules in
-    let hb : vb ≡ ((code_of m1.defs.now v.b).run m1.scope m1.next).value = search rules in
-    let is : code_of m.defs.now c.args.e.now ≡ gives (operands (code_of m.defs.now v.a) (code_of m.defs.now v.b) (binary v.op v.i)) = ap (code_of m.defs.now) v.is ∙ bin_is m.defs.now v.op v.i v.a v.b in
-    if_ok c.binary.result (λ (r : Given) (h : r ≡ record { value = (binary v.op v.i va vb m2.scope m2.next).value; ty = ty.Int v.i }).
-      (let h3 : r ≡ given (binary v.op v.i va vb m2.scope m2.next) = h ∙ ap (λ (z : Ty). record { value = (binary v.op v.i va vb m2.scope m2.next).value; ty = z }) (sym (binary_ty v.op v.i va vb m2.scope m2.next)) in
-      two_value (λ ds. code_of ds v.a) (λ ds. code_of ds v.b) (binary v.op v.i) m m1 m2 va vb r h1 ha h2 hb h3 ∙ sym (ap (λ (k : Comp). given (k.run m.scope m.next)) is))) c.binary.ensures.value
+    let is = ap (code_of m.defs.now) v.is ∙ bin_is m.defs.now v.op v.i v.a v.b in
+    let h1 : OnOk c.expr-a.result (m1 ≡ after (code_of m.defs.now v.a) m) = search rules in
+    let ha : IfOk c.expr-a.result (λ g. g ≡ given ((code_of m.defs.now v.a).run m.scope m.next)) = search rules in
+    let h2 : OnOk c.expr-b.result (m2 ≡ after (code_of m1.defs.now v.b) m1) = search rules in
+    let hb : IfOk c.expr-b.result (λ g. g ≡ given ((code_of m1.defs.now v.b).run m1.scope m1.next)) = search rules in
+    two_value (λ ds. code_of ds v.a) (λ ds. code_of ds v.b) (binary v.op v.i) _ (ty.Int v.i) m m1 m2 c.binary.result c.expr-a.result c.expr-b.result is (binary_ty v.op v.i) h1 ha h2 hb c.binary.ensures.value
 
-pub shift_code-returns-clause-state : goal.shift_code-returns-clause-state
-shift_code-returns-clause-state t c =
+pub expr-returns-in-Shift-clause-state : goal.expr-returns-in-Shift-clause-state
+expr-returns-in-Shift-clause-state t c =
     let m : Emitter = c.args.self.now in
-    let m1 : Emitter = c.expr.new.self in
-    let m2 : Emitter = c.expr-2.new.self in
+    let m1 : Emitter = c.expr-a-in-Shift.new.self in
+    let m2 : Emitter = c.expr-b-in-Shift.new.self in
     let v = c.in-Shift in
-    let h1 : m1 ≡ after (code_of m.defs.now v.a) m = search rules in
-    let h2 : m2 ≡ after (code_of m1.defs.now v.b) m1 = search rules in
-    let is : code_of m.defs.now c.args.e.now ≡ gives (operands (code_of m.defs.now v.a) (code_of m.defs.now v.b) (shifted v.left v.i)) = ap (code_of m.defs.now) v.is ∙ shift_is m.defs.now v.left v.i v.a v.b in
-    always c.shift.result (two_alone (λ ds. code_of ds v.a) (λ ds. code_of ds v.b) (ty.Int v.i) (λ a b. narrow v.i.width (ce.Bin (shift_op v.left) (widen v.i.width a) b)) m m1 m2 h1 h2 ∙ sym (ap (λ (k : Comp). after k m) is))
+    let is = ap (code_of m.defs.now) v.is ∙ shift_is m.defs.now v.left v.i v.a v.b in
+    let h1 : OnOk c.expr-a-in-Shift.result (m1 ≡ after (code_of m.defs.now v.a) m) = search rules in
+    let h2 : OnOk c.expr-b-in-Shift.result (m2 ≡ after (code_of m1.defs.now v.b) m1) = search rules in
+    two_alone (λ ds. code_of ds v.a) (λ ds. code_of ds v.b) (ty.Int v.i) (λ a b. narrow v.i.width (ce.Bin (shift_op v.left) (widen v.i.width a) b)) _ m m1 m2 c.shift.result c.expr-a-in-Shift.result c.expr-b-in-Shift.result is h1 h2 c.shift.ensures
 
-pub shift_code-returns-clause-value : goal.shift_code-returns-clause-value
-shift_code-returns-clause-value t c =
+pub expr-returns-in-Shift-clause-value : goal.expr-returns-in-Shift-clause-value
+expr-returns-in-Shift-clause-value t c =
     let m : Emitter = c.args.self.now in
-    let m1 : Emitter = c.expr.new.self in
-    let m2 : Emitter = c.expr-2.new.self in
+    let m1 : Emitter = c.expr-a-in-Shift.new.self in
+    let m2 : Emitter = c.expr-b-in-Shift.new.self in
     let v = c.in-Shift in
-    let va : CExpr = c.in_ok-a.field-0.value in
-    let vb : CExpr = c.in_ok-b.field-0.value in
-    let h1 : m1 ≡ after (code_of m.defs.now v.a) m = search rules in
-    let ha : va ≡ ((code_of m.defs.now v.a).run m.scope m.next).value = search rules in
-    let h2 : m2 ≡ after (code_of m1.defs.now v.b) m1 = search rules in
-    let hb : vb ≡ ((code_of m1.defs.now v.b).run m1.scope m1.next).value = search rules in
-    let is : code_of m.defs.now c.args.e.now ≡ gives (operands (code_of m.defs.now v.a) (code_of m.defs.now v.b) (shifted v.left v.i)) = ap (code_of m.defs.now) v.is ∙ shift_is m.defs.now v.left v.i v.a v.b in
-    if_ok c.shift.result (λ (r : Given) (h3 : r ≡ given (shifted v.left v.i va vb m2.scope m2.next)). two_value (λ ds. code_of ds v.a) (λ ds. code_of ds v.b) (shifted v.left v.i) m m1 m2 va vb r h1 ha h2 hb h3 ∙ sym (ap (λ (k : Comp). given (k.run m.scope m.next)) is)) c.shift.ensures
+    let is = ap (code_of m.defs.now) v.is ∙ shift_is m.defs.now v.left v.i v.a v.b in
+    let h1 : OnOk c.expr-a-in-Shift.result (m1 ≡ after (code_of m.defs.now v.a) m) = search rules in
+    let ha : IfOk c.expr-a-in-Shift.result (λ g. g ≡ given ((code_of m.defs.now v.a).run m.scope m.next)) = search rules in
+    let h2 : OnOk c.expr-b-in-Shift.result (m2 ≡ after (code_of m1.defs.now v.b) m1) = search rules in
+    let hb : IfOk c.expr-b-in-Shift.result (λ g. g ≡ given ((code_of m1.defs.now v.b).run m1.scope m1.next)) = search rules in
+    two_value (λ ds. code_of ds v.a) (λ ds. code_of ds v.b) (shifted v.left v.i) _ (ty.Int v.i) m m1 m2 c.shift.result c.expr-a-in-Shift.result c.expr-b-in-Shift.result is (λ a b names n. refl) h1 ha h2 hb c.shift.ensures
 
-pub cmp_code-returns-clause-state : goal.cmp_code-returns-clause-state
-cmp_code-returns-clause-state t c =
+pub expr-returns-in-Cmp-clause-state : goal.expr-returns-in-Cmp-clause-state
+expr-returns-in-Cmp-clause-state t c =
     let m : Emitter = c.args.self.now in
-    let m1 : Emitter = c.expr.new.self in
-    let m2 : Emitter = c.expr-2.new.self in
+    let m1 : Emitter = c.expr-a-in-Cmp.new.self in
+    let m2 : Emitter = c.expr-b-in-Cmp.new.self in
     let v = c.in-Cmp in
-    let h1 : m1 ≡ after (code_of m.defs.now v.a) m = search rules in
-    let h2 : m2 ≡ after (code_of m1.defs.now v.b) m1 = search rules in
-    let is : code_of m.defs.now c.args.e.now ≡ gives (operands (code_of m.defs.now v.a) (code_of m.defs.now v.b) (compared v.op v.i)) = ap (code_of m.defs.now) v.is ∙ cmp_is m.defs.now v.op v.i v.a v.b in
-    always c.comparison.result (two_alone (λ ds. code_of ds v.a) (λ ds. code_of ds v.b) ty.Bool (λ a b. ce.Cmp W8 (kind v.op) (widen v.i.width a) (widen v.i.width b)) m m1 m2 h1 h2 ∙ sym (ap (λ (k : Comp). after k m) is))
+    let is = ap (code_of m.defs.now) v.is ∙ cmp_is m.defs.now v.op v.i v.a v.b in
+    let h1 : OnOk c.expr-a-in-Cmp.result (m1 ≡ after (code_of m.defs.now v.a) m) = search rules in
+    let h2 : OnOk c.expr-b-in-Cmp.result (m2 ≡ after (code_of m1.defs.now v.b) m1) = search rules in
+    two_alone (λ ds. code_of ds v.a) (λ ds. code_of ds v.b) ty.Bool (λ a b. ce.Cmp W8 (kind v.op) (widen v.i.width a) (widen v.i.width b)) _ m m1 m2 c.comparison.result c.expr-a-in-Cmp.result c.expr-b-in-Cmp.result is h1 h2 c.comparison.ensures
 
-pub cmp_code-returns-clause-value : goal.cmp_code-returns-clause-value
-cmp_code-returns-clause-value t c =
+pub expr-returns-in-Cmp-clause-value : goal.expr-returns-in-Cmp-clause-value
+expr-returns-in-Cmp-clause-value t c =
     let m : Emitter = c.args.self.now in
-    let m1 : Emitter = c.expr.new.self in
-    let m2 : Emitter = c.expr-2.new.self in
+    let m1 : Emitter = c.expr-a-in-Cmp.new.self in
+    let m2 : Emitter = c.expr-b-in-Cmp.new.self in
     let v = c.in-Cmp in
-    let va : CExpr = c.in_ok-a.field-0.value in
-    let vb : CExpr = c.in_ok-b.field-0.value in
-    let h1 : m1 ≡ after (code_of m.defs.now v.a) m = search rules in
-    let ha : va ≡ ((code_of m.defs.now v.a).run m.scope m.next).value = search rules in
-    let h2 : m2 ≡ after (code_of m1.defs.now v.b) m1 = search rules in
-    let hb : vb ≡ ((code_of m1.defs.now v.b).run m1.scope m1.next).value = search rules in
-    let is : code_of m.defs.now c.args.e.now ≡ gives (operands (code_of m.defs.now v.a) (code_of m.defs.now v.b) (compared v.op v.i)) = ap (code_of m.defs.now) v.is ∙ cmp_is m.defs.now v.op v.i v.a v.b in
-    if_ok c.comparison.result (λ (r : Given) (h3 : r ≡ given (compared v.op v.i va vb m2.scope m2.next)). two_value (λ ds. code_of ds v.a) (λ ds. code_of ds v.b) (compared v.op v.i) m m1 m2 va vb r h1 ha h2 hb h3 ∙ sym (ap (λ (k : Comp). given (k.run m.scope m.next)) is)) c.comparison.ensures
+    let is = ap (code_of m.defs.now) v.is ∙ cmp_is m.defs.now v.op v.i v.a v.b in
+    let h1 : OnOk c.expr-a-in-Cmp.result (m1 ≡ after (code_of m.defs.now v.a) m) = search rules in
+    let ha : IfOk c.expr-a-in-Cmp.result (λ g. g ≡ given ((code_of m.defs.now v.a).run m.scope m.next)) = search rules in
+    let h2 : OnOk c.expr-b-in-Cmp.result (m2 ≡ after (code_of m1.defs.now v.b) m1) = search rules in
+    let hb : IfOk c.expr-b-in-Cmp.result (λ g. g ≡ given ((code_of m1.defs.now v.b).run m1.scope m1.next)) = search rules in
+    two_value (λ ds. code_of ds v.a) (λ ds. code_of ds v.b) (compared v.op v.i) _ ty.Bool m m1 m2 c.comparison.result c.expr-a-in-Cmp.result c.expr-b-in-Cmp.result is (λ a b names n. refl) h1 ha h2 hb c.comparison.ensures
 
-pub do_code-returns-clause-state : goal.do_code-returns-clause-state
-do_code-returns-clause-state t c =
+pub expr-returns-in-Tab-clause-state : goal.expr-returns-in-Tab-clause-state
+expr-returns-in-Tab-clause-state t c =
     let m : Emitter = c.args.self.now in
-    let m1 : Emitter = c.items.new.self in
-    let m2 : Emitter = c.expr.new.self in
+    let m1 : Emitter = c.expr-a-in-Tab.new.self in
+    let v = c.in-Tab in
+    let is = ap (code_of m.defs.now) v.is ∙ tab_is m.defs.now v.x v.a in
+    let h1 : OnOk c.expr-a-in-Tab.result (m1 ≡ after (code_of m.defs.now v.a) m) = search rules in
+    let ha : IfOk c.expr-a-in-Tab.result (λ g. g ≡ given ((code_of m.defs.now v.a).run m.scope m.next)) = search rules in
+    tab_state (λ ds. code_of ds v.a) v.x _ m m1 c.looked_up.new.self c.looked_up.result c.expr-a-in-Tab.result is h1 ha c.looked_up.ensures.state
+
+pub expr-returns-then-gives_nothing-clause-state : goal.expr-returns-then-gives_nothing-clause-state
+expr-returns-then-gives_nothing-clause-state t c =
+    let m : Emitter = c.args.self.now in
+    let m1 : Emitter = c.expr-test.new.self in
+    let v = c.in-If in
+    let is = ap (code_of m.defs.now) v.is ∙ if_is m.defs.now v.test v.a v.b in
+    let h1 : OnOk c.expr-test.result (m1 ≡ after (code_of m.defs.now v.test) m) = search rules in
+    let ht : IfOk c.expr-test.result (λ g. g ≡ given ((code_of m.defs.now v.test).run m.scope m.next)) = search rules in
+    let m2 : Emitter = c.apart-yes.new.self in
+    let m3 : Emitter = c.apart-no.new.self in
+    let u : (code_of m1.defs.now v.a).unit ≡ true = ap (λ (x : Expr). (code_of m1.defs.now x).unit) (sym c.get-in-If-2.ensures) ∙ sym c.gives_nothing.ensures ∙ c.if-gives_nothing.true in
+    let ha : OnOk c.apart-yes.result (m2 ≡ beside ((code_of m1.defs.now v.a).run m1.scope m1.next) m1) = search rules in
+    let hav : IfOk c.apart-yes.result (λ g. g ≡ apart ((code_of m1.defs.now v.a).run m1.scope m1.next)) = search rules in
+    let hb : OnOk c.apart-no.result (m3 ≡ beside ((code_of m2.defs.now v.b).run m2.scope m2.next) m2) = search rules in
+    let hbv : IfOk c.apart-no.result (λ g. g ≡ apart ((code_of m2.defs.now v.b).run m2.scope m2.next)) = search rules in
+    if_unit_state (λ ds. code_of ds v.test) (λ ds. code_of ds v.a) (λ ds. code_of ds v.b) _ m m1 m2 m3 c.branched.new.self c.branched.result c.expr-test.result c.apart-yes.result c.apart-no.result is h1 ht u ha hav hb hbv c.branched.ensures.state
+
+pub expr-returns-then-gives_nothing-clause-value : goal.expr-returns-then-gives_nothing-clause-value
+expr-returns-then-gives_nothing-clause-value t c =
+    let m : Emitter = c.args.self.now in
+    let m1 : Emitter = c.expr-test.new.self in
+    let v = c.in-If in
+    let is = ap (code_of m.defs.now) v.is ∙ if_is m.defs.now v.test v.a v.b in
+    let h1 : OnOk c.expr-test.result (m1 ≡ after (code_of m.defs.now v.test) m) = search rules in
+    let u : (code_of m1.defs.now v.a).unit ≡ true = ap (λ (x : Expr). (code_of m1.defs.now x).unit) (sym c.get-in-If-2.ensures) ∙ sym c.gives_nothing.ensures ∙ c.if-gives_nothing.true in
+    let hav : IfOk c.apart-yes.result (λ g. g ≡ apart ((code_of m1.defs.now v.a).run m1.scope m1.next)) = search rules in
+    if_unit_value (λ ds. code_of ds v.test) (λ ds. code_of ds v.a) (λ ds. code_of ds v.b) _ m m1 c.branched.result c.expr-test.result c.apart-yes.result is h1 u hav c.branched.ensures.value
+
+pub expr-returns-else-gives_nothing-clause-state : goal.expr-returns-else-gives_nothing-clause-state
+expr-returns-else-gives_nothing-clause-state t c =
+    let m : Emitter = c.args.self.now in
+    let m1 : Emitter = c.expr-test.new.self in
+    let v = c.in-If in
+    let is = ap (code_of m.defs.now) v.is ∙ if_is m.defs.now v.test v.a v.b in
+    let h1 : OnOk c.expr-test.result (m1 ≡ after (code_of m.defs.now v.test) m) = search rules in
+    let ht : IfOk c.expr-test.result (λ g. g ≡ given ((code_of m.defs.now v.test).run m.scope m.next)) = subst (λ (x : Expr). IfOk c.expr-test.result (λ (g : Given). g ≡ given ((code_of m.defs.now x).run m.scope m.next))) c.get-in-If.ensures c.expr-test.ensures.value in
+    let m2 : Emitter = c.fresh-number.new.self in
+    let m3 : Emitter = c.apart-yes-else-gives_nothing.new.self in
+    let m4 : Emitter = c.apart-no-else-gives_nothing.new.self in
+    let u : (code_of m1.defs.now v.a).unit ≡ false = ap (λ (x : Expr). (code_of m1.defs.now x).unit) (sym c.get-in-If-2.ensures) ∙ sym c.gives_nothing.ensures ∙ c.if-gives_nothing.false in
+    let ha : OnOk c.apart-yes-else-gives_nothing.result (m3 ≡ beside ((code_of m2.defs.now v.a).run m2.scope m2.next) m2) = search rules in
+    let hav : IfOk c.apart-yes-else-gives_nothing.result (λ g. g ≡ apart ((code_of m2.defs.now v.a).run m2.scope m2.next)) = search rules in
+    let hb : OnOk c.apart-no-else-gives_nothing.result (m4 ≡ beside ((code_of m3.defs.now v.b).run m3.scope m3.next) m3) = search rules in
+    let hbv : IfOk c.apart-no-else-gives_nothing.result (λ g. g ≡ apart ((code_of m3.defs.now v.b).run m3.scope m3.next)) = search rules in
+    if_value_state (λ ds. code_of ds v.test) (λ ds. code_of ds v.a) (λ ds. code_of ds v.b) _ m m1 m2 m3 m4 c.chosen.new.self c.chosen.result c.expr-test.result c.fresh-number.result c.apart-yes-else-gives_nothing.result c.apart-no-else-gives_nothing.result is h1 ht u c.fresh-number.ensures.state c.fresh-number.ensures.value ha hav hb hbv c.chosen.ensures.state
+
+pub expr-returns-else-gives_nothing-clause-value : goal.expr-returns-else-gives_nothing-clause-value
+expr-returns-else-gives_nothing-clause-value t c =
+    let m : Emitter = c.args.self.now in
+    let m1 : Emitter = c.expr-test.new.self in
+    let v = c.in-If in
+    let is = ap (code_of m.defs.now) v.is ∙ if_is m.defs.now v.test v.a v.b in
+    let h1 : OnOk c.expr-test.result (m1 ≡ after (code_of m.defs.now v.test) m) = search rules in
+    let m2 : Emitter = c.fresh-number.new.self in
+    let u : (code_of m1.defs.now v.a).unit ≡ false = ap (λ (x : Expr). (code_of m1.defs.now x).unit) (sym c.get-in-If-2.ensures) ∙ sym c.gives_nothing.ensures ∙ c.if-gives_nothing.false in
+    let hav : IfOk c.apart-yes-else-gives_nothing.result (λ g. g ≡ apart ((code_of m2.defs.now v.a).run m2.scope m2.next)) = search rules in
+    if_value_value (λ ds. code_of ds v.test) (λ ds. code_of ds v.a) (λ ds. code_of ds v.b) _ m m1 m2 c.chosen.result c.expr-test.result c.fresh-number.result c.apart-yes-else-gives_nothing.result is h1 u c.fresh-number.ensures.state c.fresh-number.ensures.value hav c.chosen.ensures.value
+
+pub expr-returns-in-Do-clause-state : goal.expr-returns-in-Do-clause-state
+expr-returns-in-Do-clause-state t c =
+    let m : Emitter = c.args.self.now in
+    let m1 : Emitter = c.items-items.new.self in
+    let m2 : Emitter = c.expr-last.new.self in
     let v = c.in-Do in
-    let len : ℕ = c.len-before.result in
-    let hl : len ≡ length m.scope = search rules in
-    let h1 : m1 ≡ after_items (items (map (item_code m.defs.now) v.items) m.scope m.next) m = search rules in
-    let h2 : m2 ≡ after (code_of m1.defs.now v.a) m1 = search rules in
-    let h3 : c.leave.new.self ≡ record m2 { scope = cut len m2.scope } = search rules in
-    let is : code_of m.defs.now c.args.e.now ≡ block (map (item_code m.defs.now) v.items) (code_of m.defs.now v.a) = ap (code_of m.defs.now) v.is ∙ do_is m.defs.now v.items v.a in
-    do_state (λ ds. code_of ds v.a) v.items m m1 m2 c.leave.new.self len hl h1 h2 h3 ∙ sym (ap (λ (k : Comp). after k m) is)
+    let is = ap (code_of m.defs.now) v.is ∙ do_is m.defs.now v.items v.a in
+    let hl : c.len-before.result ≡ length m.scope = search rules in
+    let h1 : OnOk c.items-items.result (m1 ≡ after_items (items (map (item_code m.defs.now) v.items) m.scope m.next) m) = search rules in
+    let h2 : OnOk c.expr-last.result (m2 ≡ after (code_of m1.defs.now v.a) m1) = search rules in
+    do_state (λ ds. code_of ds v.a) v.items _ m m1 m2 c.leave.new.self _ c.behind.result c.expr-last.result c.items-items.result is hl h1 h2 c.leave.ensures c.behind.ensures
 
-pub do_code-returns-clause-value : goal.do_code-returns-clause-value
-do_code-returns-clause-value t c =
+pub expr-returns-in-Do-clause-value : goal.expr-returns-in-Do-clause-value
+expr-returns-in-Do-clause-value t c =
     let m : Emitter = c.args.self.now in
-    let m1 : Emitter = c.items.new.self in
+    let m1 : Emitter = c.items-items.new.self in
     let v = c.in-Do in
-    let g : Given = c.in_ok-given.given in
-    let h1 : m1 ≡ after_items (items (map (item_code m.defs.now) v.items) m.scope m.next) m = search rules in
-    let hg : g ≡ given ((code_of m1.defs.now v.a).run m1.scope m1.next) = search rules in
-    let is : code_of m.defs.now c.args.e.now ≡ block (map (item_code m.defs.now) v.items) (code_of m.defs.now v.a) = ap (code_of m.defs.now) v.is ∙ do_is m.defs.now v.items v.a in
-    do_value (λ ds. code_of ds v.a) v.items m m1 g h1 hg ∙ sym (ap (λ (k : Comp). given (k.run m.scope m.next)) is)
+    let is = ap (code_of m.defs.now) v.is ∙ do_is m.defs.now v.items v.a in
+    let h1 : OnOk c.items-items.result (m1 ≡ after_items (items (map (item_code m.defs.now) v.items) m.scope m.next) m) = search rules in
+    let ha : IfOk c.expr-last.result (λ g. g ≡ given ((code_of m1.defs.now v.a).run m1.scope m1.next)) = subst (λ (x : Expr). IfOk c.expr-last.result (λ (g : Given). g ≡ given ((code_of m1.defs.now x).run m1.scope m1.next))) c.get-in-Do.ensures c.expr-last.ensures.value in
+    do_value (λ ds. code_of ds v.a) v.items _ m m1 c.behind.result c.expr-last.result c.items-items.result is h1 ha c.behind.ensures
 
-pub while_code-returns-clause-state : goal.while_code-returns-clause-state
-while_code-returns-clause-state t c =
+pub expr-returns-in-While-clause-state : goal.expr-returns-in-While-clause-state
+expr-returns-in-While-clause-state t c =
     let m : Emitter = c.args.self.now in
-    let m1 : Emitter = c.apart.new.self in
-    let m2 : Emitter = c.apart-2.new.self in
+    let m1 : Emitter = c.apart-test.new.self in
+    let m2 : Emitter = c.apart-body.new.self in
     let v = c.in-While in
-    let test : Apart = c.in_ok-test.test in
-    let body : Apart = c.in_ok-body.body in
-    let h1 : m1 ≡ beside ((code_of m.defs.now v.test).run m.scope m.next) m = search rules in
-    let ht : test ≡ apart ((code_of m.defs.now v.test).run m.scope m.next) = search rules in
-    let h2 : m2 ≡ beside ((code_of m1.defs.now v.a).run m1.scope m1.next) m1 = search rules in
-    let hb : body ≡ apart ((code_of m1.defs.now v.a).run m1.scope m1.next) = search rules in
-    let h3 : c.put.new.self ≡ record m2 { code = m2.code ++ st.Loop test.code test.value body.code ∷ [] } = search rules in
-    let is : code_of m.defs.now c.args.e.now ≡ does (while (code_of m.defs.now v.test) (code_of m.defs.now v.a)) = ap (code_of m.defs.now) v.is ∙ while_is m.defs.now v.test v.a in
-    always c.no_value.result (while_state (λ ds. code_of ds v.test) (λ ds. code_of ds v.a) m m1 m2 c.put.new.self test body h1 ht h2 hb h3 ∙ sym (ap (λ (k : Comp). after k m) is))
+    let is = ap (code_of m.defs.now) v.is ∙ while_is m.defs.now v.test v.a in
+    let ha : OnOk c.apart-test.result (m1 ≡ beside ((code_of m.defs.now v.test).run m.scope m.next) m) = search rules in
+    let hav : IfOk c.apart-test.result (λ g. g ≡ apart ((code_of m.defs.now v.test).run m.scope m.next)) = search rules in
+    let hb : OnOk c.apart-body.result (m2 ≡ beside ((code_of m1.defs.now v.a).run m1.scope m1.next) m1) = search rules in
+    let hbv : IfOk c.apart-body.result (λ g. g ≡ apart ((code_of m1.defs.now v.a).run m1.scope m1.next)) = search rules in
+    while_state (λ ds. code_of ds v.test) (λ ds. code_of ds v.a) _ m m1 m2 c.tested.new.self c.tested.result c.apart-test.result c.apart-body.result is ha hav hb hbv c.tested.ensures.state
 
-pub for_code-returns-clause-state : goal.for_code-returns-clause-state
-for_code-returns-clause-state t c =
+pub expr-returns-in-For-clause-state : goal.expr-returns-in-For-clause-state
+expr-returns-in-For-clause-state t c =
     let m : Emitter = c.args.self.now in
-    let m1 : Emitter = c.expr.new.self in
-    let m2 : Emitter = c.expr-2.new.self in
-    let m3 : Emitter = c.range.new.self in
-    let m4 : Emitter = c.apart.new.self in
-    let m5 : Emitter = c.leave.new.self in
+    let m1 : Emitter = c.expr-first.new.self in
+    let m2 : Emitter = c.expr-end.new.self in
+    let m3 : Emitter = c.range-end.new.self in
+    let m4 : Emitter = c.apart-body-in-For.new.self in
     let v = c.in-For in
-    let va : CExpr = c.in_ok-a.field-0.value in
-    let vb : CExpr = c.in_ok-b.field-0.value in
-    let len : ℕ = c.len-before.result in
-    let end : ℕ = c.in_ok-end.end in
-    let body : Apart = c.in_ok-body.body in
-    let h1 : m1 ≡ after (code_of m.defs.now v.a) m = c.in_ok-a.ensures.state ∙ ap (λ (x : Expr). after (code_of m.defs.now x) m) c.get.ensures in
-    let ha : va ≡ ((code_of m.defs.now v.a).run m.scope m.next).value =
-    ap (λ (g : Given). g.value) c.in_ok-a.ensures.value ∙ ap (λ (x : Expr). ((code_of m.defs.now x).run m.scope m.next).value) c.get.ensures in
-    let h2 : m2 ≡ after (code_of m1.defs.now v.b) m1 = c.in_ok-b.ensures.state ∙ ap (λ (x : Expr). after (code_of m1.defs.now x) m1) c.get-2.ensures in
-    let hb : vb ≡ ((code_of m1.defs.now v.b).run m1.scope m1.next).value =
-    ap (λ (g : Given). g.value) c.in_ok-b.ensures.value ∙ ap (λ (x : Expr). ((code_of m1.defs.now x).run m1.scope m1.next).value) c.get-2.ensures in
-    let hl : len ≡ length m2.scope = c.len-before.ensures in
-    let h3 : m3 ≡ record m2 {
-      code = (m2.code ++ st.Decl (record { ty = ct.U32; name = named m2.next v.x }) va ∷ []) ++ st.Decl (var (m2.next + 1) ct.U32) vb ∷ [];
-      scope = record { name = v.x; emitted = named m2.next v.x; ty = u32 } ∷ m2.scope;
-      next = m2.next + 2;
-    } = c.in_ok-end.ensures.state in
-    let he : end ≡ m2.next + 1 = c.in_ok-end.ensures.value in
-    let h4 : m4 ≡ beside ((code_of m3.defs.now v.e).run m3.scope m3.next) m3 = c.in_ok-body.ensures.state ∙ ap (λ (x : Expr). beside ((code_of m3.defs.now x).run m3.scope m3.next) m3) c.get-3.ensures in
-    let hd : body ≡ apart ((code_of m3.defs.now v.e).run m3.scope m3.next) = c.in_ok-body.ensures.value ∙ ap (λ (x : Expr). apart ((code_of m3.defs.now x).run m3.scope m3.next)) c.get-3.ensures in
-    let h5 : m5 ≡ record m4 { scope = cut len m4.scope } = c.in_ok-leave.ensures in
-    let h6 : c.counted.new.self ≡ record m5 {
-      code = m5.code
-          ++ st.Loop [] (ce.Cmp W8 ck.Lt (ce.Var (named m2.next v.x)) (ce.Var (plain end))) (body.code ++ stepped (named m2.next v.x) ∷ []) ∷ [];
-    } = c.in_ok-counted.ensures in
-    let is : code_of m.defs.now c.args.e.now ≡ does (for v.x (code_of m.defs.now v.a) (code_of m.defs.now v.b) (code_of m.defs.now v.e)) = ap (code_of m.defs.now) v.is ∙ for_is m.defs.now v.x v.a v.b v.e in
-    always c.no_value.result (for_state (λ ds. code_of ds v.a) (λ ds. code_of ds v.b) (λ ds. code_of ds v.e) v.x m m1 m2 m3 m4 m5 c.counted.new.self va vb len m2.next end body h1 ha h2 hb hl refl h3 he h4 hd h5 h6
-    ∙ sym (ap (λ (k : Comp). after k m) is))
+    let is = ap (code_of m.defs.now) v.is ∙ for_is m.defs.now v.x v.a v.b v.e in
+    let h1 : OnOk c.expr-first.result (m1 ≡ after (code_of m.defs.now v.a) m) = search rules in
+    let ha : IfOk c.expr-first.result (λ g. g ≡ given ((code_of m.defs.now v.a).run m.scope m.next)) = subst (λ (x : Expr). IfOk c.expr-first.result (λ (g : Given). g ≡ given ((code_of m.defs.now x).run m.scope m.next))) c.get-in-For.ensures c.expr-first.ensures.value in
+    let h2 : OnOk c.expr-end.result (m2 ≡ after (code_of m1.defs.now v.b) m1) = search rules in
+    let hb : IfOk c.expr-end.result (λ g. g ≡ given ((code_of m1.defs.now v.b).run m1.scope m1.next)) = search rules in
+    let hl : c.len-before-in-For.result ≡ length m2.scope = search rules in
+    let he : OnOk c.apart-body-in-For.result (m4 ≡ beside ((code_of m3.defs.now v.e).run m3.scope m3.next) m3) = search rules in
+    let hev : IfOk c.apart-body-in-For.result (λ g. g ≡ apart ((code_of m3.defs.now v.e).run m3.scope m3.next)) = search rules in
+    for_state (λ ds. code_of ds v.a) (λ ds. code_of ds v.b) (λ ds. code_of ds v.e) v.x _ m m1 m2 m3 m4 c.leave-in-For.new.self c.counted.new.self _ c.counted.result c.expr-first.result c.expr-end.result c.range-end.result c.apart-body-in-For.result
+    is h1 ha h2 hb hl c.range-end.ensures.state c.range-end.ensures.value he hev c.leave-in-For.ensures c.counted.ensures.state
 
-pub if_code-returns-then-gives_nothing-clause-state : goal.if_code-returns-then-gives_nothing-clause-state
-if_code-returns-then-gives_nothing-clause-state t c =
+pub expr-returns-in-Call-clause-state : goal.expr-returns-in-Call-clause-state
+expr-returns-in-Call-clause-state t c =
     let m : Emitter = c.args.self.now in
-    let m1 : Emitter = c.expr.new.self in
-    let m2 : Emitter = c.apart.new.self in
-    let m3 : Emitter = c.apart-then-gives_nothing.new.self in
-    let v = c.in-If in
-    let test : CExpr = c.in_ok-test.field-0.value in
-    let first : Apart = c.in_ok-yes.yes in
-    let other : Apart = c.in_ok-no.no in
-    let h1 : m1 ≡ after (code_of m.defs.now v.test) m = search rules in
-    let ht : test ≡ ((code_of m.defs.now v.test).run m.scope m.next).value = search rules in
-    let u : (code_of m1.defs.now v.a).unit ≡ true = search rules in
-    let h2 : m2 ≡ beside ((code_of m1.defs.now v.a).run m1.scope m1.next) m1 = search rules in
-    let hf : first ≡ apart ((code_of m1.defs.now v.a).run m1.scope m1.next) = search rules in
-    let h3 : m3 ≡ beside ((code_of m2.defs.now v.b).run m2.scope m2.next) m2 = search rules in
-    let ho : other ≡ apart ((code_of m2.defs.now v.b).run m2.scope m2.next) = search rules in
-    let h4 : c.chain.new.self ≡ record m3 { code = m3.code ++ st.Chain (arm test first.code ∷ []) other.code ∷ [] } = search rules in
-    let unit : (code_of m.defs.now v.a).unit ≡ true = ap (λ (z : Emitter). (code_of z.defs.now v.a).unit) (sym h1) ∙ u in
-    let is : code_of m.defs.now c.args.e.now ≡ choice (code_of m.defs.now v.test) (code_of m.defs.now v.a) (code_of m.defs.now v.b) = ap (code_of m.defs.now) v.is ∙ if_is m.defs.now v.test v.a v.b in
-    always c.nothing.result (if_unit_state (λ ds. code_of ds v.test) (λ ds. code_of ds v.a) (λ ds. code_of ds v.b) m m1 m2 m3 c.chain.new.self test first other h1 ht unit h2 hf h3 ho h4 ∙ sym (ap (λ (k : Comp). after k m) is))
+    let m1 : Emitter = c.all-values-in-Call.new.self in
+    let v = c.in-Call in
+    let is = ap (code_of m.defs.now) v.is ∙ call_is m.defs.now v.f _ v.es in
+    let h1 : OnOk c.all-values-in-Call.result (m1 ≡ after_all (all (map (code_of m.defs.now) v.es) m.scope m.next) m) = search rules in
+    let hv : IfOk c.all-values-in-Call.result (λ vs. vs ≡ (all (map (code_of m.defs.now) v.es) m.scope m.next).values) = search rules in
+    call_state (λ ds. map (code_of ds) v.es) v.f _ m m1 c.call.new.self c.call.result c.all-values-in-Call.result is h1 hv c.call.ensures.state
 
-pub if_code-returns-then-gives_nothing-clause-value : goal.if_code-returns-then-gives_nothing-clause-value
-if_code-returns-then-gives_nothing-clause-value t c =
+pub expr-returns-in-Call-clause-value : goal.expr-returns-in-Call-clause-value
+expr-returns-in-Call-clause-value t c =
     let m : Emitter = c.args.self.now in
-    let m1 : Emitter = c.expr.new.self in
-    let v = c.in-If in
-    let first : Apart = c.in_ok-yes.yes in
-    let h1 : m1 ≡ after (code_of m.defs.now v.test) m = search rules in
-    let u : (code_of m1.defs.now v.a).unit ≡ true = search rules in
-    let hf : first ≡ apart ((code_of m1.defs.now v.a).run m1.scope m1.next) = search rules in
-    let unit : (code_of m.defs.now v.a).unit ≡ true = ap (λ (z : Emitter). (code_of z.defs.now v.a).unit) (sym h1) ∙ u in
-    let is : code_of m.defs.now c.args.e.now ≡ choice (code_of m.defs.now v.test) (code_of m.defs.now v.a) (code_of m.defs.now v.b) = ap (code_of m.defs.now) v.is ∙ if_is m.defs.now v.test v.a v.b in
-    if_ok c.nothing.result (λ (r : Given) (hg : r ≡ record { value = nothing; ty = first.ty }). if_unit_value (λ ds. code_of ds v.test) (λ ds. code_of ds v.a) (λ ds. code_of ds v.b) m m1 first r h1 unit hf hg ∙ sym (ap (λ (k : Comp). given (k.run m.scope m.next)) is)) c.nothing.ensures
-
-pub if_code-returns-clause-state : goal.if_code-returns-clause-state
-if_code-returns-clause-state t c =
-    let m : Emitter = c.args.self.now in
-    let m1 : Emitter = c.expr.new.self in
-    let m2 : Emitter = c.fresh.new.self in
-    let m3 : Emitter = c.apart-2.new.self in
-    let m4 : Emitter = c.apart-3.new.self in
-    let m5 : Emitter = c.blank.new.self in
-    let v = c.in-If in
-    let test : CExpr = c.in_ok-test.field-0.value in
-    let number : ℕ = c.in_ok-number.number in
-    let first : Apart = c.in_ok-yes-2.yes in
-    let other : Apart = c.in_ok-no-2.no in
-    let r : Ty = c.in_ok-ty.ty in
-    let h1 : m1 ≡ after (code_of m.defs.now v.test) m = c.in_ok-test.ensures.state ∙ ap (λ (x : Expr). after (code_of m.defs.now x) m) c.get.ensures in
-    let ht : test ≡ ((code_of m.defs.now v.test).run m.scope m.next).value =
-    ap (λ (g : Given). g.value) c.in_ok-test.ensures.value ∙ ap (λ (x : Expr). ((code_of m.defs.now x).run m.scope m.next).value) c.get.ensures in
-    let u : (code_of m1.defs.now v.a).unit ≡ false = ap (λ (x : Expr). (code_of m1.defs.now x).unit) (sym c.get-2.ensures) ∙ sym c.gives_nothing.ensures ∙ c.if-gives_nothing.false in
-    let h2 : m2 ≡ record m1 { next = m1.next + 1 } = search rules in
-    let hk : number ≡ m1.next = search rules in
-    let h3 : m3 ≡ beside ((code_of m2.defs.now v.a).run m2.scope m2.next) m2 = c.in_ok-yes-2.ensures.state ∙ ap (λ (x : Expr). beside ((code_of m2.defs.now x).run m2.scope m2.next) m2) c.get-3.ensures in
-    let hf : first ≡ apart ((code_of m2.defs.now v.a).run m2.scope m2.next) = c.in_ok-yes-2.ensures.value ∙ ap (λ (x : Expr). apart ((code_of m2.defs.now x).run m2.scope m2.next)) c.get-3.ensures in
-    let h4 : m4 ≡ beside ((code_of m3.defs.now v.b).run m3.scope m3.next) m3 = c.in_ok-no-2.ensures.state ∙ ap (λ (x : Expr). beside ((code_of m3.defs.now x).run m3.scope m3.next) m3) c.get-4.ensures in
-    let ho : other ≡ apart ((code_of m3.defs.now v.b).run m3.scope m3.next) = c.in_ok-no-2.ensures.value ∙ ap (λ (x : Expr). apart ((code_of m3.defs.now x).run m3.scope m3.next)) c.get-4.ensures in
-    let hr : r ≡ first.ty = search rules in
-    let h5 : m5 ≡ record m4 { code = m4.code ++ st.Blank (var number (ctype r)) ∷ [] } = search rules in
-    let h6 : c.chosen.new.self ≡ record m5 { code = m5.code ++ st.Chain (arm test (first.code ++ st.Set (plain number) first.value ∷ []) ∷ []) (other.code ++ st.Set (plain number) other.value ∷ []) ∷ [] } = search rules in
-    let unit : (code_of m.defs.now v.a).unit ≡ false = ap (λ (z : Emitter). (code_of z.defs.now v.a).unit) (sym h1) ∙ u in
-    let is : code_of m.defs.now c.args.e.now ≡ choice (code_of m.defs.now v.test) (code_of m.defs.now v.a) (code_of m.defs.now v.b) = ap (code_of m.defs.now) v.is ∙ if_is m.defs.now v.test v.a v.b in
-    if_value_state (λ ds. code_of ds v.test) (λ ds. code_of ds v.a) (λ ds. code_of ds v.b) m m1 m2 m3 m4 m5 c.chosen.new.self test number first other r h1 ht unit h2 hk h3 hf h4 ho hr h5 h6
-    ∙ sym (ap (λ (k : Comp). after k m) is)
-
-pub if_code-returns-clause-value : goal.if_code-returns-clause-value
-if_code-returns-clause-value t c =
-    let m : Emitter = c.args.self.now in
-    let m1 : Emitter = c.expr.new.self in
-    let m2 : Emitter = c.fresh.new.self in
-    let v = c.in-If in
-    let number : ℕ = c.in_ok-number.number in
-    let first : Apart = c.in_ok-yes-2.yes in
-    let r : Ty = c.in_ok-ty.ty in
-    let e : CExpr = c.in_ok-value.value in
-    let h1 : m1 ≡ after (code_of m.defs.now v.test) m = c.in_ok-test.ensures.state ∙ ap (λ (x : Expr). after (code_of m.defs.now x) m) c.get.ensures in
-    let u : (code_of m1.defs.now v.a).unit ≡ false = ap (λ (x : Expr). (code_of m1.defs.now x).unit) (sym c.get-2.ensures) ∙ sym c.gives_nothing.ensures ∙ c.if-gives_nothing.false in
-    let h2 : m2 ≡ record m1 { next = m1.next + 1 } = search rules in
-    let hk : number ≡ m1.next = search rules in
-    let hf : first ≡ apart ((code_of m2.defs.now v.a).run m2.scope m2.next) = c.in_ok-yes-2.ensures.value ∙ ap (λ (x : Expr). apart ((code_of m2.defs.now x).run m2.scope m2.next)) c.get-3.ensures in
-    let hr : r ≡ first.ty = search rules in
-    let hv : e ≡ ce.Var (plain number) = search rules in
-    let unit : (code_of m.defs.now v.a).unit ≡ false = ap (λ (z : Emitter). (code_of z.defs.now v.a).unit) (sym h1) ∙ u in
-    let is : code_of m.defs.now c.args.e.now ≡ choice (code_of m.defs.now v.test) (code_of m.defs.now v.a) (code_of m.defs.now v.b) = ap (code_of m.defs.now) v.is ∙ if_is m.defs.now v.test v.a v.b in
-    if_value_value (λ ds. code_of ds v.test) (λ ds. code_of ds v.a) (λ ds. code_of ds v.b) m m1 m2 number first r e h1 unit h2 hk hf hr hv ∙ sym (ap (λ (k : Comp). given (k.run m.scope m.next)) is)
+    let m1 : Emitter = c.all-values-in-Call.new.self in
+    let v = c.in-Call in
+    let is = ap (code_of m.defs.now) v.is ∙ call_is m.defs.now v.f _ v.es in
+    let h1 : OnOk c.all-values-in-Call.result (m1 ≡ after_all (all (map (code_of m.defs.now) v.es) m.scope m.next) m) = search rules in
+    let hv : IfOk c.all-values-in-Call.result (λ vs. vs ≡ (all (map (code_of m.defs.now) v.es) m.scope m.next).values) = search rules in
+    call_value (λ ds. map (code_of ds) v.es) v.f _ m m1 c.call.result c.all-values-in-Call.result is h1 hv c.call.ensures.value
 
 pub all-loop-e-preserved : goal.all-loop-e-preserved
 all-loop-e-preserved t c =
