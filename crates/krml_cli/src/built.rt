@@ -29,26 +29,18 @@ fn is_expr_built(expr: &Expr) -> bool
     match expr {
         Expr::Var(_) | Expr::Unit | Expr::Bool(_) => true,
         Expr::Num(ty, _) => is_public(*ty),
-        Expr::Bin(_, ty, a, b) => is_public(*ty)
-            && is_expr_built(a.get())
-            && is_expr_built(b.get()),
-        Expr::Shift(_, ty, a, b) => is_public(*ty)
-            && is_expr_built(a.get())
-            && is_expr_built(b.get()),
-        Expr::Cmp(_, ty, a, b) => is_public(*ty)
-            && is_expr_built(a.get())
-            && is_expr_built(b.get()),
+        Expr::Bin(_, ty, a, b) | Expr::Shift(_, ty, a, b) | Expr::Cmp(_, ty, a, b) => {
+            is_public(*ty) && is_expr_built(a.get()) && is_expr_built(b.get())
+        }
         Expr::Cast(from, to, a) => is_public(*from) && is_public(*to) && is_expr_built(a.get()),
         Expr::Not(a) | Expr::Get(_, a) | Expr::Tab(_, a) => is_expr_built(a.get()),
-        Expr::Make(_, args, values) => args.is_empty() && are_exprs_built(values.as_slice()),
-        Expr::If(c, a, b) => is_expr_built(c.get())
-            && is_expr_built(a.get())
-            && is_expr_built(b.get()),
-        Expr::While(c, a) => is_expr_built(c.get()) && is_expr_built(a.get()),
-        Expr::For(_, a, b, c) => is_expr_built(a.get())
-            && is_expr_built(b.get())
-            && is_expr_built(c.get()),
-        Expr::Call(_, args, values) => args.is_empty() && are_exprs_built(values.as_slice()),
+        Expr::Make(_, args, values) | Expr::Call(_, args, values) => {
+            args.is_empty() && are_exprs_built(values.as_slice())
+        }
+        Expr::If(a, b, c) | Expr::For(_, a, b, c) => {
+            is_expr_built(a.get()) && is_expr_built(b.get()) && is_expr_built(c.get())
+        }
+        Expr::While(a, b) => is_expr_built(a.get()) && is_expr_built(b.get()),
         Expr::Do(items, a) => are_items_built(items.as_slice()) && is_expr_built(a.get()),
         _ => false,
     }

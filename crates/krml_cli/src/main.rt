@@ -4,7 +4,6 @@
 mod accept;
 mod built;
 mod compile;
-mod count;
 mod input;
 mod krml;
 mod output;
