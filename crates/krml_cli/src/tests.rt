@@ -69,168 +69,143 @@ fn sure_status(alloc: Global, words: &[&str], input: &[u8]) -> Result<u8, AllocE
     Ok(krml(alloc, words.as_slice(), &mut source, &mut out, &mut notes))
 }
 
+/// What a call is to give.
+#[derive(Clone, Copy)]
+struct Want<'a> {
+    status: u8,
+    out: &'a [u8],
+    notes: &'a [u8],
+}
+
+impl Answer {
+    fn is(&self, want: Want<'_>) -> bool {
+        self.status == want.status
+            && self.out.bytes() == want.out
+            && self.notes.bytes() == want.notes
+    }
+}
+
+/// Whether a command over memory that never fails gives this.
+fn gives(alloc: Global, words: &[&str], input: &[u8], want: Want<'_>) -> Result<bool, AllocError> {
+    Ok(run(alloc, words, input, 4096, [&[], &[], &[]])?.is(want))
+}
+
+/// Which calls fail, and the status, the output and the notes that `c` then gives in pieces of 16 bytes.
+const FAULTS: [([&[u64]; 3], u8, &[u8], &[u8]); 5] = [
+    ([&[], &[], &[]], 0, FIRST_TEXT, b""),
+    (
+        [&[], &[1], &[]],
+        4,
+        b"#include <stdint",
+        b"krml: write fault\n",
+    ),
+    ([&[0], &[], &[]], 3, b"", b"krml: read fault\n"),
+    ([&[2], &[], &[]], 3, b"", b"krml: read fault\n"),
+    ([&[0], &[], &[1]], 4, b"", b"krml: read fault"),
+];
+
 #[test]
 fn faults(rt: HostRuntime) -> Result<(), Fail> {
-    let write_fault = b"krml: write fault\n".as_slice();
-    let read_fault = b"krml: read fault\n".as_slice();
-    let cases: [([&[u64]; 3], u8, &[u8], &[u8]); 5] = [
-        ([&[], &[], &[]], 0, FIRST_TEXT, b""),
-        ([&[], &[1], &[]], 4, &FIRST_TEXT[..16], write_fault),
-        ([&[0], &[], &[]], 3, b"", read_fault),
-        ([&[2], &[], &[]], 3, b"", read_fault),
-        ([&[0], &[], &[1]], 4, b"", &read_fault[..16]),
-    ];
-    for (fails, status, out, notes) in cases {
-        let a = run(rt.alloc(), &["c"], FIRST, 16, fails)?;
-        assert_eq!(rt; a.status, status);
-        assert_eq!(rt; a.out.bytes(), out);
-        assert_eq!(rt; a.notes.bytes(), notes);
+    for (fails, status, out, notes) in FAULTS {
+        let want = Want { status, out, notes };
+        assert!(rt; run(rt.alloc(), &["c"], FIRST, 16, fails)?.is(want));
     }
     Ok(())
 }
+
+const COMMANDS: [&[&str]; 7] = [
+    &["c"],
+    &["check"],
+    &["--", "c"],
+    &["check", "--"],
+    &["--pages", "4", "c"],
+    &[
+        "check",
+        "--pages=4",
+        "--bound=0",
+        "--depth",
+        "100",
+        "--trace",
+    ],
+    &[
+        "--trace",
+        "--depth=1",
+        "c",
+        "--bound=10000000",
+        "--pages=1024",
+    ],
+];
+
+const NO_COMMANDS: [&[&str]; 24] = [
+    // No command, an unknown one, and words after one.
+    &[],
+    &["C"],
+    &["--"],
+    &["c", "f"],
+    &["check", "c"],
+    &["c", "--", "c"],
+    &["--help"],
+    &["c", "--help"],
+    &["--version"],
+    // Options that are none, stand twice, or behind the options' end.
+    &["--fast", "c"],
+    &["--trace", "c", "--trace"],
+    &["--pages=4", "c", "--pages=4"],
+    &["c", "--", "--pages=4"],
+    // Values that are none, or out of their form or range.
+    &["c", "--pages"],
+    &["c", "--pages="],
+    &["--pages", "", "check"],
+    &["c", "--pages=0"],
+    &["check", "--pages=1025"],
+    &["check", "--bound=10000001"],
+    &["c", "--bound=+1"],
+    &["c", "--depth=0"],
+    &["check", "--depth=101"],
+    &["check", "--opt=fold"],
+    &["c", "--opt="],
+];
+
+const USAGE: Want<'static> = Want {
+    status: 2,
+    out: b"",
+    notes: b"krml: usage\n",
+};
 
 #[test]
 fn command_lines(rt: HostRuntime) -> Result<(), Fail> {
-    let cases: [(&[&str], u8); 31] = [
-        (&["c"], 0),
-        (&["check"], 0),
-        (&["--", "c"], 0),
-        (&["check", "--"], 0),
-        (&["--pages", "4", "c"], 0),
-        (
-            &[
-                "check",
-                "--pages=4",
-                "--bound=0",
-                "--depth",
-                "100",
-                "--trace",
-            ],
-            0,
-        ),
-        (
-            &[
-                "--trace",
-                "--depth=1",
-                "c",
-                "--bound=10000000",
-                "--pages=1024",
-            ],
-            0,
-        ),
-        // No command, an unknown one, and words after one.
-        (&[], 2),
-        (&["C"], 2),
-        (&["--"], 2),
-        (&["c", "f"], 2),
-        (&["check", "c"], 2),
-        (&["c", "--", "c"], 2),
-        (&["--help"], 2),
-        (&["c", "--help"], 2),
-        (&["--version"], 2),
-        // Options that are none, stand twice, or behind the options' end.
-        (&["--fast", "c"], 2),
-        (&["--trace", "c", "--trace"], 2),
-        (&["--pages=4", "c", "--pages=4"], 2),
-        (&["c", "--", "--pages=4"], 2),
-        // Values that are none, or out of their form or range.
-        (&["c", "--pages"], 2),
-        (&["c", "--pages="], 2),
-        (&["--pages", "", "check"], 2),
-        (&["c", "--pages=0"], 2),
-        (&["check", "--pages=1025"], 2),
-        (&["check", "--bound=10000001"], 2),
-        (&["c", "--bound=+1"], 2),
-        (&["c", "--depth=0"], 2),
-        (&["check", "--depth=101"], 2),
-        (&["check", "--opt=fold"], 2),
-        (&["c", "--opt="], 2),
-    ];
-    for (words, status) in cases {
-        let a = run(rt.alloc(), words, FIRST, 4096, [&[], &[], &[]])?;
-        assert_eq!(rt; a.status, status);
-        if status == 2 {
-            assert_eq!(rt; a.out.bytes(), b"".as_slice());
-            assert_eq!(rt; a.notes.bytes(), b"krml: usage\n".as_slice());
-        }
+    for words in &COMMANDS {
+        let answer = run(rt.alloc(), words, FIRST, 4096, [&[], &[], &[]])?;
+        assert!(rt; answer.status == 0);
+    }
+    for words in &NO_COMMANDS {
+        assert!(rt; gives(rt.alloc(), words, FIRST, USAGE)?);
     }
     Ok(())
 }
+
+const ACCEPTED_TEXTS: [&[u8]; 9] = [
+    b"",
+    b"; a comment",
+    FIRST,
+    b"(table t u32 5 6) (fun f () ((i u32)) u32 (tab t i)) (entry f)",
+    b"(struct p () (x u8) (y bool)) (fun f () ((a p)) p (make p () (get x a) (not (get y a))))",
+    b"(fun f () ((a u32)) bool (do (let b u64 (cast u32 u64 (shl u32 a (u32 3)))) (le u64 b (u64 9))))",
+    b"(fun f () () unit (while true unit)) (entry f)",
+    b"(fun f () () unit (for i (u32 0) (u32 9) unit))",
+    b"(fun f () () unit (call g ())) (fun g () () unit (call f ()))",
+];
+
+const ACCEPTED: Want<'static> = Want {
+    status: 0,
+    out: b"accepted\n",
+    notes: b"",
+};
 
 #[test]
 fn accepted_texts(rt: HostRuntime) -> Result<(), Fail> {
-    let cases: [&[u8]; 9] = [
-        b"",
-        b"; a comment",
-        FIRST,
-        b"(table t u32 5 6) (fun f () ((i u32)) u32 (tab t i)) (entry f)",
-        b"(struct p () (x u8) (y bool)) (fun f () ((a p)) p (make p () (get x a) (not (get y a))))",
-        b"(fun f () ((a u32)) bool (do (let b u64 (cast u32 u64 (shl u32 a (u32 3)))) (le u64 b (u64 9))))",
-        b"(fun f () () unit (while true unit)) (entry f)",
-        b"(fun f () () unit (for i (u32 0) (u32 9) unit))",
-        b"(fun f () () unit (call g ())) (fun g () () unit (call f ()))",
-    ];
-    for input in cases {
-        let a = run(rt.alloc(), &["check"], input, 4096, [&[], &[], &[]])?;
-        assert_eq!(rt; a.status, 0);
-        assert_eq!(rt; a.out.bytes(), b"accepted\n".as_slice());
-        assert_eq!(rt; a.notes.bytes(), b"".as_slice());
-    }
-    Ok(())
-}
-
-/// Whether a command refuses an input for this, and writes nothing else.
-fn is_refused(
-    alloc: Global,
-    command: &str,
-    input: &[u8],
-    words: &[u8],
-) -> Result<bool, AllocError> {
-    let pieces: [(&[u8], usize); 3] = [(b"krml: refused: ", 1), (words, 1), (b"\n", 1)];
-    let line = text_of(alloc, &pieces)?;
-    let a = run(alloc, &[command], input, 4096, [&[], &[], &[]])?;
-    Ok(a.status == 1 && a.out.bytes().is_empty() && a.notes.bytes() == line.as_slice())
-}
-
-#[test]
-fn refused_definitions(rt: HostRuntime) -> Result<(), Fail> {
-    let cases: [(&[u8], &[u8]); 14] = [
-        (b"(sum s () (A))", b"not built 0"),
-        (
-            b"(fun f () () unit (frame (while true (do (let b (buf u8) (alloc u8 1 (u8 0))) unit)))) (entry f)",
-            b"type fault in definition 0",
-        ),
-        (
-            b"(fun f () () u32 (u8 1)) (sum s () (A))",
-            b"type fault in definition 0",
-        ),
-        (b"(sum s () (A)) (entry g)", b"type fault in definition 1"),
-        (b"(entry f)", b"type fault in definition 0"),
-        (
-            b"(fun f () ((a u32) (a u32)) u32 a) (entry f)",
-            b"type fault in definition 0",
-        ),
-        // The first of several, by place.
-        (
-            b"(table t u8 1) (sum s () (A)) (sum r () (B))",
-            b"not built 1",
-        ),
-        // Buffers, type variables and secret types.
-        (b"(fun f () ((b (buf u8))) unit unit)", b"not built 0"),
-        (b"(fun f () () u8 (frame (u8 1)))", b"not built 0"),
-        (b"(struct p ('a) (x 'a))", b"not built 0"),
-        (b"(table t su8 1)", b"not built 0"),
-        (b"(fun f () ((a u8)) su8 (hide u8 a))", b"not built 0"),
-        (b"(fun f () () su8 (su8 1))", b"not built 0"),
-        (
-            b"(fun f () () unit unit) (fun g ('a) () unit unit)",
-            b"not built 1",
-        ),
-    ];
-    for (input, words) in cases {
-        for command in ["c", "check"] {
-            assert!(rt; is_refused(rt.alloc(), command, input, words)?);
-        }
+    for input in &ACCEPTED_TEXTS {
+        assert!(rt; gives(rt.alloc(), &["check"], input, ACCEPTED)?);
     }
     Ok(())
 }
@@ -246,37 +221,94 @@ fn text_of(alloc: Global, pieces: &[(&[u8], usize)]) -> Result<Vec<u8>, AllocErr
     Ok(text)
 }
 
+/// Whether both commands refuse an input for this, and write nothing else.
+fn is_refused(alloc: Global, input: &[u8], words: &[u8]) -> Result<bool, AllocError> {
+    let line = text_of(alloc, &[(b"krml: refused: ", 1), (words, 1), (b"\n", 1)])?;
+    let want = Want {
+        status: 1,
+        out: b"",
+        notes: line.as_slice(),
+    };
+    Ok(gives(alloc, &["c"], input, want)? && gives(alloc, &["check"], input, want)?)
+}
+
+const REFUSED_DEFINITIONS: [(&[u8], &[u8]); 14] = [
+    (b"(sum s () (A))", b"not built 0"),
+    (
+        b"(fun f () () unit (frame (while true (do (let b (buf u8) (alloc u8 1 (u8 0))) unit)))) (entry f)",
+        b"type fault in definition 0",
+    ),
+    (
+        b"(fun f () () u32 (u8 1)) (sum s () (A))",
+        b"type fault in definition 0",
+    ),
+    (b"(sum s () (A)) (entry g)", b"type fault in definition 1"),
+    (b"(entry f)", b"type fault in definition 0"),
+    (
+        b"(fun f () ((a u32) (a u32)) u32 a) (entry f)",
+        b"type fault in definition 0",
+    ),
+    // The first of several, by place.
+    (
+        b"(table t u8 1) (sum s () (A)) (sum r () (B))",
+        b"not built 1",
+    ),
+    // Buffers, type variables and secret types.
+    (b"(fun f () ((b (buf u8))) unit unit)", b"not built 0"),
+    (b"(fun f () () u8 (frame (u8 1)))", b"not built 0"),
+    (b"(struct p ('a) (x 'a))", b"not built 0"),
+    (b"(table t su8 1)", b"not built 0"),
+    (b"(fun f () ((a u8)) su8 (hide u8 a))", b"not built 0"),
+    (b"(fun f () () su8 (su8 1))", b"not built 0"),
+    (
+        b"(fun f () () unit unit) (fun g ('a) () unit unit)",
+        b"not built 1",
+    ),
+];
+
+#[test]
+fn refused_definitions(rt: HostRuntime) -> Result<(), Fail> {
+    for (input, words) in &REFUSED_DEFINITIONS {
+        assert!(rt; is_refused(rt.alloc(), input, words)?);
+    }
+    Ok(())
+}
+
+const REFUSALS: [(&[(&[u8], usize)], &[u8]); 9] = [
+    (&[(b";", 1), (b"x", 1_048_576)], b"too large"),
+    (&[(b"(fun f", 1)], b"syntax at 6"),
+    (&[(b"(", 524_288)], b"syntax at 524288"),
+    (&[(b"(", 65), (b")", 65)], b"nesting at 64"),
+    (&[(b"(", 64), (b")", 64)], b"shape of form 0"),
+    (
+        &[(b"(fun f () () u32 (u32 4294967296)) (entry f)", 1)],
+        b"shape of form 0",
+    ),
+    (&[(b"(entry f) f", 1)], b"shape of form 1"),
+    (
+        &[(b"(fun ", 1), (b"f", 65), (b" () () u32 (u32 1))", 1)],
+        b"limit name 65",
+    ),
+    (
+        &[
+            (b"(fun f () (", 1),
+            (b"(a u32)", 33),
+            (b") u32 a) (entry f)", 1),
+        ],
+        b"limit parameters 33",
+    ),
+];
+
+/// Whether both commands refuse the text of these pieces for this.
+fn are_refused(alloc: Global, pieces: &[(&[u8], usize)], words: &[u8]) -> Result<bool, AllocError> {
+    let input = text_of(alloc, pieces)?;
+    is_refused(alloc, input.as_slice(), words)
+}
+
 #[test]
 fn refusals(rt: HostRuntime) -> Result<(), Fail> {
-    let cases: [(&[(&[u8], usize)], &[u8]); 9] = [
-        (&[(b";", 1), (b"x", 1_048_576)], b"too large"),
-        (&[(b"(fun f", 1)], b"syntax at 6"),
-        (&[(b"(", 524_288)], b"syntax at 524288"),
-        (&[(b"(", 65), (b")", 65)], b"nesting at 64"),
-        (&[(b"(", 64), (b")", 64)], b"shape of form 0"),
-        (
-            &[(b"(fun f () () u32 (u32 4294967296)) (entry f)", 1)],
-            b"shape of form 0",
-        ),
-        (&[(b"(entry f) f", 1)], b"shape of form 1"),
-        (
-            &[(b"(fun ", 1), (b"f", 65), (b" () () u32 (u32 1))", 1)],
-            b"limit name 65",
-        ),
-        (
-            &[
-                (b"(fun f () (", 1),
-                (b"(a u32)", 33),
-                (b") u32 a) (entry f)", 1),
-            ],
-            b"limit parameters 33",
-        ),
-    ];
-    for (pieces, words) in cases {
-        let input = text_of(rt.alloc(), pieces)?;
-        for command in ["c", "check"] {
-            assert!(rt; is_refused(rt.alloc(), command, input.as_slice(), words)?);
-        }
+    for (pieces, words) in &REFUSALS {
+        assert!(rt; are_refused(rt.alloc(), pieces, words)?);
     }
     Ok(())
 }
@@ -469,14 +501,21 @@ uint32_t f_k(uint32_t v0_i) {
     ),
 ];
 
+/// Whether `c` writes this text behind the first line.
+fn compiles_to(alloc: Global, source: &[u8], expected: &[u8]) -> Result<bool, AllocError> {
+    let text = text_of(alloc, &[(b"#include <stdint.h>\n", 1), (expected, 1)])?;
+    let want = Want {
+        status: 0,
+        out: text.as_slice(),
+        notes: b"",
+    };
+    gives(alloc, &["c"], source, want)
+}
+
 #[test]
 fn texts_in_c(rt: HostRuntime) -> Result<(), Fail> {
-    let alloc = rt.alloc();
-    for (source, expected) in TEXTS {
-        let text = text_of(alloc, &[(b"#include <stdint.h>\n", 1), (expected, 1)])?;
-        let a = run(alloc, &["c"], source, 4096, [&[], &[], &[]])?;
-        assert_eq!(rt; a.status, 0);
-        assert_eq!(rt; a.out.bytes(), text.as_slice());
+    for (source, expected) in &TEXTS {
+        assert!(rt; compiles_to(rt.alloc(), source, expected)?);
     }
     Ok(())
 }
