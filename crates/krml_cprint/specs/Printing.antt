@@ -5,7 +5,7 @@ use Rattle.krml_ctree.specs.declared.tree.CExpr.{CExpr}
 use Rattle.krml_ctree.specs.declared.tree.CArm.{CArm}
 use Rattle.krml_ctree.specs.declared.tree.CStatement.TheFolds.{fold-CArm}
 use Rattle.krml_ctree.specs.declared.tree.CFun.{CFun}
-use Rattle.krml_ctree.specs.Text.{Arm, as_text, width_word, group, word, expr, if_words, else_words, statement_step, arm_step, head}
+use Rattle.krml_ctree.specs.Text.{Arm, as_text, width_word, group, expr, if_words, else_words, statement_step, arm_step, head}
 
 -- the first of several parts has no comma before it
 abbrev pub comma : ℕ → List ℕ

@@ -1,6 +1,5 @@
 -- What an emitter does.
 use Rattle.std.specs.Prelude.{ℕ, ◌+◌, List, [], ◌∷◌, ◌++◌, if◌then◌else◌}
-use Rattle.krml_trace.specs.declared.width.Width.TheVariants.{W32}
 use Rattle.krml_syntax.specs.declared.tree.IntTy.{IntTy}
 use Rattle.krml_syntax.specs.declared.tree.Field.{Field}
 use Rattle.krml_syntax.specs.declared.tree.Item.{Item}
