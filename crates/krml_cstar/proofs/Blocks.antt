@@ -28,7 +28,7 @@ use Rattle.krml_cstar.proofs.Images.{image_at, the_image, state_image, Sim}
 use Rattle.krml_cstar.proofs.Part.{erased_built, type_at_built}
 use Rattle.krml_cstar.proofs.Typed.{image_typed}
 use Rattle.krml_cstar.proofs.VariableNames.{number_of, number-named}
-use Rattle.krml_cstar.proofs.Locals.{Keeps, Below, keeps_all, keeps_then, keeps_new, below_more, new_named, only_value}
+use Rattle.krml_cstar.proofs.LocalsInC.{Keeps, Below, keeps_all, keeps_then, keeps_new, below_more, new_named, only_value}
 use Rattle.krml_cstar.proofs.Fits.{IsPart, Named, no_vars, In, Carries, Scoped, Stands, Good, Fits}
 use Rattle.krml_cstar.proofs.Forms.{stands_on, exec, in_turn, made, decl_then, part_then, on_in}
 

@@ -43,7 +43,7 @@ use Rattle.krml_cstar.proofs.Typed.{has_number, image_num, image_typed, argument
 use Rattle.krml_cstar.proofs.TypesInC.{ctype_int}
 use Rattle.krml_cstar.proofs.PartTypes.{number_part, known_width, type_part}
 use Rattle.krml_cstar.proofs.VariableNames.{number_of, number-plain}
-use Rattle.krml_cstar.proofs.Locals.{Keeps, Below, below_more, keeps_all, keeps_then, keeps_new, new_named, only_value}
+use Rattle.krml_cstar.proofs.LocalsInC.{Keeps, Below, below_more, keeps_all, keeps_then, keeps_new, new_named, only_value}
 use Rattle.krml_cstar.proofs.Steps as steps
 use Rattle.krml_cstar.proofs.Fits.{IsPart, param_types, In, Gave, CallsFit, Good, Fits}
 use Rattle.krml_cstar.proofs.Forms.{var_holds, unit_clash, number_value, sim_number, exec, made, part_then, on_in}

@@ -34,7 +34,7 @@ use Rattle.krml_cstar.specs.Translation.{Names, Comp, ctype, plain, is_unit, not
 use Rattle.krml_cstar.proofs.Images.{image_at, the_image, state_image, Sim}
 use Rattle.krml_cstar.proofs.Typed.{image_typed}
 use Rattle.krml_cstar.proofs.VariableNames.{number_of, number-plain}
-use Rattle.krml_cstar.proofs.Locals.{all_named, Keeps, Below, below_more, keeps_all, keeps_named, keeps_then, keeps_new, keeps_close, below_close, new_named, only_value, branch_keeps, branch_below, branch_named}
+use Rattle.krml_cstar.proofs.LocalsInC.{all_named, Keeps, Below, below_more, keeps_all, keeps_named, keeps_then, keeps_new, keeps_close, below_close, new_named, only_value, branch_keeps, branch_below, branch_named}
 use Rattle.krml_cstar.proofs.Steps as steps
 use Rattle.krml_cstar.proofs.Fits.{In, Stands, Good, Fits}
 use Rattle.krml_cstar.proofs.Forms.{holds_now, var_holds, unit_clash, bool_value, stands_on, sim_truth, exec, blank_then, set_then, part_then, part_more, on_in}

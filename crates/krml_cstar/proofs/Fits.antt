@@ -24,7 +24,7 @@ use Rattle.krml_cstar.specs.Built.{is_ty_built}
 use Rattle.krml_cstar.specs.Translation.{Known, Names, Comp, ctype, look, is_unit, fun_code}
 use Rattle.krml_cstar.proofs.Images.{image_at, images_at, state_image, Sim}
 use Rattle.krml_cstar.proofs.VariableNames.{number_of}
-use Rattle.krml_cstar.proofs.Locals.{Keeps, Below}
+use Rattle.krml_cstar.proofs.LocalsInC.{Keeps, Below}
 
 -- A type of the part that is built: the program has the struct that it names, where it names one.
 pub record IsPart (p : CProgram) (a : Ty) : Type 0 where

@@ -39,7 +39,7 @@ use Rattle.krml_cstar.specs.Translation.{Known, Names, Comp, is_unit, gives, doe
 use Rattle.krml_cstar.proofs.Images.{level_image, image_at, the_image, state_image, Sim}
 use Rattle.krml_cstar.proofs.Part.{erased_built, type_at_built}
 use Rattle.krml_cstar.proofs.VariableNames.{number_of}
-use Rattle.krml_cstar.proofs.Locals.{all_named, Keeps, Below, keeps_all, keeps_then, keeps_value}
+use Rattle.krml_cstar.proofs.LocalsInC.{all_named, Keeps, Below, keeps_all, keeps_then, keeps_value}
 use Rattle.krml_cstar.proofs.Steps as steps
 use Rattle.krml_cstar.proofs.PartTypes.{unit_part}
 use Rattle.krml_cstar.proofs.Fits.{IsPart, AreParts, Named, Holds, no_vars, In, Scoped, Stands, Good, Fits}

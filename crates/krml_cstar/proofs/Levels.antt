@@ -34,7 +34,7 @@ use Rattle.krml_cstar.proofs.Lookups.{Lookups}
 use Rattle.krml_cstar.proofs.Part.{erased_built, fields_at_built, fields_erased_built, at_function, FunctionBuilt, function_built}
 use Rattle.krml_cstar.proofs.Typed.{image_typed}
 use Rattle.krml_cstar.proofs.PartTypes.{type_part}
-use Rattle.krml_cstar.proofs.Locals.{keeps_all}
+use Rattle.krml_cstar.proofs.LocalsInC.{keeps_all}
 use Rattle.krml_cstar.proofs.Fits.{IsPart, AreParts, param_types, no_vars, In, Stands, Gave, CallsFit, Good, Fits}
 use Rattle.krml_cstar.proofs.Parameters.{params_named, params_below, params_scoped}
 use Rattle.krml_cstar.proofs.BuiltBodies.{bodies_built}

@@ -14,7 +14,7 @@ pub mod Found
 pub mod Hoisted
 pub mod Images
 pub mod Levels
-pub mod Locals
+pub mod LocalsInC
 pub mod Lookups
 pub mod Loops
 pub mod Masks

@@ -48,7 +48,7 @@ use Rattle.krml_cstar.proofs.Typed.{has_number, image_num}
 use Rattle.krml_cstar.proofs.PartTypes.{unit_part, number_part, known_width}
 use Rattle.krml_cstar.proofs.Values.{literal_value, arithmetic_value, compared_value}
 use Rattle.krml_cstar.proofs.VariableNames.{number_of, number-plain, number-named}
-use Rattle.krml_cstar.proofs.Locals.{all_named, Keeps, Below, below_more, keeps_named, keeps_all, keeps_then, keeps_new, keeps_close, below_close, new_named, only_value, branch_keeps, branch_below, branch_named, branch_other, branch_again}
+use Rattle.krml_cstar.proofs.LocalsInC.{all_named, Keeps, Below, below_more, keeps_named, keeps_all, keeps_then, keeps_new, keeps_close, below_close, new_named, only_value, branch_keeps, branch_below, branch_named, branch_other, branch_again}
 use Rattle.krml_cstar.proofs.Steps as steps
 use Rattle.krml_cstar.proofs.Fits.{IsPart, In, Stands, Good, Fits}
 use Rattle.krml_cstar.proofs.Forms.{holds_now, unit_clash, unit_is, bool_value, stands_on, exec, made, decl_then, set_then, part_more, on_in}

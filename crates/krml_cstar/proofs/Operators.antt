@@ -46,7 +46,7 @@ use Rattle.krml_cstar.proofs.PartTypes.{bool_part, number_part, known_width}
 use Rattle.krml_cstar.proofs.VariableNames.{number_of, number-plain}
 use Rattle.krml_cstar.proofs.Values.{c_op, literal_value, truth_value, arithmetic_value, shifted_value, compared_value, opposite_value, converted_value, divided_is, divided_value, widen_value}
 use Rattle.krml_cstar.proofs.Masks.{difference_value, eq_mask_value, gte_mask_value}
-use Rattle.krml_cstar.proofs.Locals.{Keeps, Below, below_more, keeps_all, keeps_less, keeps_then, keeps_new, keeps_value, new_named, only_value}
+use Rattle.krml_cstar.proofs.LocalsInC.{Keeps, Below, below_more, keeps_all, keeps_less, keeps_then, keeps_new, keeps_value, new_named, only_value}
 use Rattle.krml_cstar.proofs.Steps as steps
 use Rattle.krml_cstar.proofs.Fits.{IsPart, Holds, In, Stands, Good, Fits}
 use Rattle.krml_cstar.proofs.Forms.{holds_on, bool_value, number_value, sim_number, sim_truth, exec, made, decl_then, part_then, on_in, just_fits}

@@ -24,7 +24,7 @@ use Rattle.krml_cstar.specs.Translation.{Known, look, named, ctype, params_from,
 use Rattle.krml_cstar.proofs.Images.{image_at, images_at}
 use Rattle.krml_cstar.proofs.Part.{erased_built}
 use Rattle.krml_cstar.proofs.VariableNames.{number_of, number-named}
-use Rattle.krml_cstar.proofs.Locals.{Keeps, Below, below_more, keeps_all, keeps_then, keeps_new, keeps_value, new_named, only_value}
+use Rattle.krml_cstar.proofs.LocalsInC.{Keeps, Below, below_more, keeps_all, keeps_then, keeps_new, keeps_value, new_named, only_value}
 use Rattle.krml_cstar.proofs.Fits.{Named, param_types, Carries, Scoped}
 
 -- ---- as the translation has them

@@ -45,7 +45,7 @@ use Rattle.krml_cstar.proofs.Part.{struct_built, erased_built, at_built, fields_
 use Rattle.krml_cstar.proofs.Typed.{images_of_fields, image_struct, fields_fit}
 use Rattle.krml_cstar.proofs.PartTypes.{struct_part, type_part}
 use Rattle.krml_cstar.proofs.VariableNames.{name_is}
-use Rattle.krml_cstar.proofs.Locals.{Keeps, Below, keeps_all, keeps_then}
+use Rattle.krml_cstar.proofs.LocalsInC.{Keeps, Below, keeps_all, keeps_then}
 use Rattle.krml_cstar.proofs.Steps as steps
 use Rattle.krml_cstar.proofs.Fits.{param_types, In, Stands, Good, Fits}
 use Rattle.krml_cstar.proofs.Forms.{stands_on, exec, in_turn, part_then, on_in}

@@ -19,9 +19,9 @@ use crate::given::{
     Apart, Branch, Given, Part, behind, boolean, built, comparison, conversion, negation, no_value,
     nothing, number, shift, typed, value, with_code, with_type,
 };
+use crate::locals::{Local, Locals};
 use crate::names::{copy, named, plain};
 use crate::numbers::{computed, narrow, spread, widen, work};
-use crate::scope::{Local, Scope};
 use crate::statements::{Code, chain, ended, repeated, set};
 use crate::terms::{Term, Values, bin, cmp, field, lit, var};
 use crate::types::{SourceType, copied, ctype, cvar, is_unit};
@@ -37,7 +37,7 @@ pub struct Emitter<'n, 'a> {
     pub alloc: Global,
     pub defs: &'n Names<'a>,
     pub code: Seq<CStatement>,
-    pub scope: Scope<'a>,
+    pub scope: Locals<'a>,
     pub next: u32,
 }
 
@@ -61,7 +61,7 @@ fn gives_nothing(defs: &Names<'_>, e: &Expr) -> bool
 
 impl<'n, 'a> Emitter<'n, 'a> {
     /// No statements so far.
-    pub fn new(alloc: Global, defs: &'n Names<'a>, scope: Scope<'a>, next: u32) -> Emitter<'n, 'a>
+    pub fn new(alloc: Global, defs: &'n Names<'a>, scope: Locals<'a>, next: u32) -> Emitter<'n, 'a>
         ensures { result ≡ record { alloc = alloc; defs = defs.entry; code = []; scope = scope.entry; next = next } }
     {
         Emitter {

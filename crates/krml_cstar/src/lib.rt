@@ -3,10 +3,10 @@
 
 mod emitter;
 mod given;
+mod locals;
 mod names;
 mod numbers;
 mod program;
-mod scope;
 mod statements;
 mod terms;
 mod types;

@@ -11,8 +11,8 @@ ghost use Rattle.krml_cstar.specs.Emitting.{field_code, with_def, apart};
 
 use crate::emitter::Emitter;
 use crate::given::{Branch, with_code};
+use crate::locals::{Local, Locals};
 use crate::names::{copy, named};
-use crate::scope::{Local, Scope};
 use crate::types::{ctype, cvar, is_unit};
 use krml_ast::{BundledFile, Def, Expr, Field, IntTy, Names, SourceFile, Ty, clone_ty};
 use krml_ctree::{CExpr, CFun, CProgram, CStruct, CTable, CType, CVar};
@@ -84,10 +84,10 @@ fn local<'a>(alloc: Global, k: usize, param: &'a Field) -> Result<Local<'a>, NoM
 }
 
 /// The parameters in scope. The first one is the newest.
-fn scope<'a>(alloc: Global, params: &'a [Field]) -> Result<Scope<'a>, NoMemory>
+fn scope<'a>(alloc: Global, params: &'a [Field]) -> Result<Locals<'a>, NoMemory>
     ensures { IfOk result (λ r. r ≡ params_from 0 params.now) }
 {
-    let mut scope = Scope::new(alloc);
+    let mut scope = Locals::new(alloc);
     let mut k = params.len();
     while k > 0 {
         k -= 1;

@@ -1,10 +1,11 @@
 //! The variables in scope.
 
-ghost use Rattle.std.specs.Prelude.{◌≡◌, ◌∷◌, [], OnOk, length, map, option_map, reverse};
+ghost use Rattle.std.specs.Prelude.{◌≡◌, ◌∷◌, [], OnOk, length, option_map};
 ghost use Rattle.krml_cstar.specs.Translation.{look};
 ghost use Rattle.krml_cstar.specs.Scopes.{known, cut};
 
 use krml_ast::Ty;
+use krml_intern::Scope;
 use krml_trace::{Name, NoMemory};
 use std::alloc::Global;
 use std::marker::Model;
@@ -17,33 +18,37 @@ pub struct Local<'a> {
     pub ty: Ty,
 }
 
-/// The variables in scope. Contracts see the newest first.
+/// The variables in scope, and the place of the newest of each name. Contracts see the newest first.
 #[derive(Drop)]
-pub struct Scope<'a> {
+pub struct Locals<'a> {
     items: Vec<Local<'a>>,
+    places: Scope<'a>,
 }
 
-impl<'a> Model for Scope<'a> {
-    ghost use Rattle.std.specs.Prelude.{List, map, reverse};
+impl<'a> Model for Locals<'a> {
+    ghost use Rattle.std.specs.Prelude.{◌≡◌, List, map, reverse};
     ghost use Rattle.std.specs.Coded.{codes};
     ghost use Rattle.krml_syntax.specs.contracts.tree.Ty as ty;
     ghost use Rattle.krml_cstar.specs.Translation.{Known};
-    ghost use Rattle.krml_cstar.specs.Scopes.{known};
+    ghost use Rattle.krml_cstar.specs.Scopes.{known, placed};
 
     ghost Value = { List Known };
 
     ghost coded = { Prim.hlevel (codes, ty.the_row.coded) };
 
     ghost view = { λ s. reverse (map known s.items.items) };
+
+    ghost invariant = { λ s. s.places ≡ placed (reverse (map known s.items.items)) };
 }
 
-impl<'a> Scope<'a> {
+impl<'a> Locals<'a> {
     /// No variables.
-    pub fn new(alloc: Global) -> Scope<'a>
+    pub fn new(alloc: Global) -> Locals<'a>
         ensures { result ≡ [] }
     {
-        Scope {
+        Locals {
             items: Vec::new(alloc),
+            places: Scope::new(alloc),
         }
     }
 
@@ -58,8 +63,16 @@ impl<'a> Scope<'a> {
     pub fn push(&mut self, local: Local<'a>) -> Result<(), NoMemory>
         ensures { OnOk result (self.new ≡ known local.entry ∷ self.old) }
     {
+        let name = local.name;
+        let n = self.items.len();
         self.items.push(local)?;
-        Ok(())
+        match self.places.push(name.as_bytes(), n) {
+            Ok(()) => Ok(()),
+            Err(_) => {
+                self.items.truncate(n);
+                Err(NoMemory)
+            }
+        }
     }
 
     /// Leaves the oldest variables, so many.
@@ -67,27 +80,14 @@ impl<'a> Scope<'a> {
         ensures { self.new ≡ cut len self.old }
     {
         self.items.truncate(len);
+        self.places.cut(len);
     }
 
     /// The newest variable of a name.
     pub fn look<'s>(&'s self, x: &Name) -> Option<&'s Local<'a>>
         ensures { option_map (λ l. known l.now) result ≡ look self.now x.now }
     {
-        newest(self.items.as_slice(), x)
+        let k = self.places.look(x.as_bytes())?;
+        self.items.get(k)
     }
-}
-
-// The newest variable stands last.
-fn newest<'s, 'a>(items: &'s [Local<'a>], x: &Name) -> Option<&'s Local<'a>>
-    ensures { option_map (λ l. known l.now) result ≡ look (reverse (map known items.now)) x.now }
-{
-    let n = items.len();
-    if n == 0 {
-        return None;
-    }
-    let local = &items[n - 1];
-    if local.name.as_bytes() == x.as_bytes() {
-        return Some(local);
-    }
-    newest(&items[..n - 1], x)
 }

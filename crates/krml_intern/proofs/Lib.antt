@@ -1,0 +1,10 @@
+pub mod Grown
+pub mod Keys
+pub mod Lasts
+pub mod Puts
+pub mod Tables
+pub mod Scopes
+pub mod Unlabelled
+pub mod Layers
+pub mod Distinct
+pub mod Erasing
