@@ -24,7 +24,7 @@ use Rattle.krml_ast.specs.Typing.{Scope, with_vars, in_loop, in_frame, at, field
 use Rattle.krml_ast.specs.Vars.{are_distinct}
 use Rattle.krml_syntax.proofs.Only.{Only, only_none, only_some, only_then, only_more}
 use Rattle.krml_types.specs.Types.{same_ty, is_flat, is_type}
-use Rattle.krml_types.specs.declared.instance.Instance.{Instance}
+use Rattle.krml_types.specs.Instances.{Instance}
 use Rattle.krml_types.specs.Parts.{is_value}
 use Rattle.krml_types.specs.Instances.{make_at, con_at, call_at}
 use Rattle.krml_types.specs.Scopes.{is_framed, slot_type}

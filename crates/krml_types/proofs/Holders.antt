@@ -200,7 +200,7 @@ struct_place_is (def ∷ defs) x = by_def def (ap (option_map suc) (struct_place
 abbrev AtPlace : List Def → List Bool → List ℕ → Type 0
 AtPlace defs table x = part_holds table (at_place (struct_place defs x)) ≡ is_set defs table x
 
-place_is : (defs : List Def) (table : List Bool) (x : List ℕ) → AtPlace defs table x
+pub place_is : (defs : List Def) (table : List Bool) (x : List ℕ) → AtPlace defs table x
 place_is [] table x = refl
 place_is (def ∷ defs) [] x = no_more (struct_place (def ∷ defs) x) ∙ sym (no_table def defs x)
 place_is (d.Struct name vars fields ∷ defs) (b ∷ table) x = go (bytes_eq name x) (on_one b table (struct_place defs x) ∙ place_is defs table x)

@@ -1,3 +1,4 @@
+pub mod ArmsByNumber
 pub mod Before
 pub mod Blocks
 pub mod Decided
@@ -6,8 +7,16 @@ pub mod Earlier
 pub mod Expressions
 pub mod Faults
 pub mod Holders
+pub mod InstanceNumbers
 pub mod Instances
+pub mod Judged
+pub mod Judges
 pub mod Known
+pub mod LayersOfForms
+pub mod Moved
 pub mod Parts
 pub mod Patterns
 pub mod Scopes
+pub mod Steps
+pub mod StepsOnBuffers
+pub mod StepsOnFlow

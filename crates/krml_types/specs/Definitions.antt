@@ -1,5 +1,5 @@
 -- Which definitions are well typed, computed: behind the definitions before each, with buffers held as in the whole file.
-use Rattle.std.specs.Prelude.{ℕ, ◌^◌, nat_lt, Bool, true, false, not, ◌&&◌, ◌||◌, List, [], ◌∷◌, map, Option, Some, None}
+use Rattle.std.specs.Prelude.{◌≡◌, ℕ, ◌++◌, Result, Ok, Err, ◌^◌, nat_lt, Bool, true, false, not, ◌&&◌, ◌||◌, List, [], ◌∷◌, map, Option, Some, None}
 use Rattle.std.specs.Str.{bytes_eq}
 use Rattle.krml_trace.specs.Width.{bits}
 use Rattle.krml_syntax.specs.declared.tree.IntTy.{IntTy}
@@ -20,6 +20,9 @@ use Rattle.krml_ast.specs.Places.{is_among, cons_of, names_in}
 use Rattle.krml_types.specs.Types.{same_ty, is_flat, is_type_by, are_arguments_by}
 use Rattle.krml_types.specs.Parts.{is_value}
 use Rattle.krml_types.specs.Expressions.{is_result, type_of}
+use Rattle.krml_types.specs.Judging.{Place, in_scope}
+use Rattle.krml_types.specs.declared.untyped.Untyped.{Untyped}
+use Rattle.krml_types.specs.declared.untyped.Untyped.TheVariants.{Fault, NoMemory}
 
 -- ---- names
 
@@ -75,6 +78,17 @@ is_of None r = false
 
 abbrev pub is_body : List Def → List (List ℕ) → List Field → Ty → Expr → Bool
 is_body defs vars params result body = is_of (type_of defs vars body (body_scope params)) (erased result)
+
+-- the parameters go into scope before the variables that stand there
+abbrev pub ParamsGo : Result (Unit {0}) Untyped → List Field → Place → Place → Type 0
+ParamsGo (Ok u) params old new = new ≡ in_scope old (record { vars = param_vars params ++ old.scope.vars; frame = old.scope.frame })
+ParamsGo (Err Fault) params old new = ⊥
+ParamsGo (Err NoMemory) params old new = Unit {0}
+
+-- type variables, parameters and result are well formed
+abbrev pub is_head : List Def → List (List ℕ) → List Field → Ty → Bool
+is_head defs vars params result = distinct_names vars && distinct_names (names_of params) && are_fields defs defs vars params
+    && is_type_by (type_named defs) (is_flat defs) vars result && is_result defs result
 
 -- ---- entries
 

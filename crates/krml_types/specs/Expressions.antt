@@ -19,10 +19,9 @@ use Rattle.krml_ast.specs.IsType.{erased, int_ty, u32, is_unit_in}
 use Rattle.krml_ast.specs.TypeParts.{element_of}
 use Rattle.krml_ast.specs.Typing.{look, Scope, with_vars, in_loop, in_frame}
 use Rattle.krml_ast.specs.Vars.{are_distinct}
-use Rattle.krml_types.specs.declared.instance.Instance.{Instance}
 use Rattle.krml_types.specs.Types.{same_ty, is_flat, is_type}
 use Rattle.krml_types.specs.Parts.{demand, is_value}
-use Rattle.krml_types.specs.Instances.{make_at, con_at, call_at, field_type, tag_type, part_type}
+use Rattle.krml_types.specs.Instances.{Instance, make_at, con_at, call_at, field_type, tag_type, part_type}
 use Rattle.krml_types.specs.Scopes.{is_framed, slot_type}
 use Rattle.krml_types.specs.Patterns.{binds}
 
@@ -141,67 +140,93 @@ fill_type k c g = slot_type g.frame k >>= λ a. one_type c a (t.Buf a) g
 abbrev pub Layer : Type 0
 Layer = Expr-F Comp ItemComp ArmComp Comp
 
--- on numbers and truth values
-abbrev pub operation_step : List Def → Layer → Comp
-operation_step defs (Expr-F.Bin op i a b) g = two_type a b (int_ty i) (int_ty i) (int_ty i) g
-operation_step defs (Expr-F.Shift left i a n) g = two_type a n (int_ty i) u32 (int_ty i) g
-operation_step defs (Expr-F.Cmp op i a b) g = two_type a b (int_ty i) (int_ty i) t.Bool g
-operation_step defs (Expr-F.Not a) g = one_type a t.Bool t.Bool g
-operation_step defs (Expr-F.Cast i j a) g = one_type a (int_ty i) (int_ty j) g
-operation_step defs (Expr-F.Hide i a) g = one_type a (int_ty i) (int_ty i) g
-operation_step defs (Expr-F.Tab x a) g = tab_type defs x a g
-operation_step defs _ g = None
+-- on two numbers
+abbrev pub binary_step : Layer → Comp
+binary_step (Expr-F.Bin op i a b) g = two_type a b (int_ty i) (int_ty i) (int_ty i) g
+binary_step (Expr-F.Shift left i a n) g = two_type a n (int_ty i) u32 (int_ty i) g
+binary_step (Expr-F.Cmp op i a b) g = two_type a b (int_ty i) (int_ty i) t.Bool g
+binary_step _ g = None
 
--- on buffers
-abbrev pub buffer_step : List Def → List (List ℕ) → Layer → Comp
-buffer_step defs tvars (Expr-F.Read a i) g = read_type a i g
-buffer_step defs tvars (Expr-F.Write a i v) g = write_type a i v g
-buffer_step defs tvars (Expr-F.Slice a i n) g = slice_type a i n g
-buffer_step defs tvars (Expr-F.Frame slots a) g = frame_type defs slots a g
-buffer_step defs tvars (Expr-F.Alloc b n a) g = alloc_type defs tvars b n a g
-buffer_step defs tvars (Expr-F.Fill k a) g = fill_type k a g
-buffer_step defs tvars _ g = None
+-- on one number or truth value
+abbrev pub unary_step : List Def → Layer → Comp
+unary_step defs (Expr-F.Not a) g = one_type a t.Bool t.Bool g
+unary_step defs (Expr-F.Cast i j a) g = one_type a (int_ty i) (int_ty j) g
+unary_step defs (Expr-F.Hide i a) g = one_type a (int_ty i) (int_ty i) g
+unary_step defs (Expr-F.Tab x a) g = tab_type defs x a g
+unary_step defs _ g = None
 
--- on structs and sums, and calls
-abbrev pub instance_step : List Def → List (List ℕ) → Layer → Comp
-instance_step defs tvars (Expr-F.Make x args es) g = apply_type es (make_at defs tvars x args) g
-instance_step defs tvars (Expr-F.Get y a) g = a g >>= λ s. field_type defs y s
-instance_step defs tvars (Expr-F.Con x args es) g = apply_type es (con_at defs tvars x args) g
-instance_step defs tvars (Expr-F.TagIs x a) g = a g >>= λ s. tag_type defs x s
-instance_step defs tvars (Expr-F.Part x j a) g = a g >>= λ s. part_type defs x j s
-instance_step defs tvars (Expr-F.Call x args es) g = apply_type es (call_at defs tvars x args) g
-instance_step defs tvars _ g = None
+-- branches and blocks
+abbrev pub flow_step : Layer → Comp
+flow_step (Expr-F.If c a b) g = if_type c a b g
+flow_step (Expr-F.Match a arms) g = match_type a arms g
+flow_step (Expr-F.Do items a) g = block_type items a g
+flow_step (Expr-F.Cases cases) g = cases_from cases g None
+flow_step _ g = None
+
+-- loops
+abbrev pub loop_step : Layer → Comp
+loop_step (Expr-F.While c a) g = while_type c a g
+loop_step (Expr-F.For x a b c) g = for_type x a b c g
+loop_step _ g = None
+
+-- what is done with a buffer
+abbrev pub access_step : Layer → Comp
+access_step (Expr-F.Read a i) g = read_type a i g
+access_step (Expr-F.Write a i v) g = write_type a i v g
+access_step (Expr-F.Slice a i n) g = slice_type a i n g
+access_step _ g = None
+
+-- where buffers are made
+abbrev pub frame_step : List Def → List (List ℕ) → Layer → Comp
+frame_step defs tvars (Expr-F.Frame slots a) g = frame_type defs slots a g
+frame_step defs tvars (Expr-F.Alloc b n a) g = alloc_type defs tvars b n a g
+frame_step defs tvars (Expr-F.Fill k a) g = fill_type k a g
+frame_step defs tvars _ g = None
+
+-- structs, constructors and functions at type arguments
+abbrev pub applied_step : List Def → List (List ℕ) → Layer → Comp
+applied_step defs tvars (Expr-F.Make x args es) g = apply_type es (make_at defs tvars x args) g
+applied_step defs tvars (Expr-F.Con x args es) g = apply_type es (con_at defs tvars x args) g
+applied_step defs tvars (Expr-F.Call x args es) g = apply_type es (call_at defs tvars x args) g
+applied_step defs tvars _ g = None
+
+-- parts of structs and sums
+abbrev pub part_step : List Def → Layer → Comp
+part_step defs (Expr-F.Get y a) g = a g >>= λ s. field_type defs y s
+part_step defs (Expr-F.TagIs x a) g = a g >>= λ s. tag_type defs x s
+part_step defs (Expr-F.Part x j a) g = a g >>= λ s. part_type defs x j s
+part_step defs _ g = None
 
 abbrev pub type_step : List Def → List (List ℕ) → Layer → Comp
 type_step defs tvars (Expr-F.Var x) g = look g.vars x
 type_step defs tvars Expr-F.Unit g = Some t.Unit
 type_step defs tvars (Expr-F.Bool b) g = Some t.Bool
 type_step defs tvars (Expr-F.Num i n) g = num_type i n
-type_step defs tvars (Expr-F.Bin op i a b) g = operation_step defs (Expr-F.Bin op i a b) g
-type_step defs tvars (Expr-F.Shift left i a n) g = operation_step defs (Expr-F.Shift left i a n) g
-type_step defs tvars (Expr-F.Cmp op i a b) g = operation_step defs (Expr-F.Cmp op i a b) g
-type_step defs tvars (Expr-F.Not a) g = operation_step defs (Expr-F.Not a) g
-type_step defs tvars (Expr-F.Cast i j a) g = operation_step defs (Expr-F.Cast i j a) g
-type_step defs tvars (Expr-F.Hide i a) g = operation_step defs (Expr-F.Hide i a) g
-type_step defs tvars (Expr-F.Make x args es) g = instance_step defs tvars (Expr-F.Make x args es) g
-type_step defs tvars (Expr-F.Get y a) g = instance_step defs tvars (Expr-F.Get y a) g
-type_step defs tvars (Expr-F.Con x args es) g = instance_step defs tvars (Expr-F.Con x args es) g
-type_step defs tvars (Expr-F.Read a i) g = buffer_step defs tvars (Expr-F.Read a i) g
-type_step defs tvars (Expr-F.Write a i v) g = buffer_step defs tvars (Expr-F.Write a i v) g
-type_step defs tvars (Expr-F.Slice a i n) g = buffer_step defs tvars (Expr-F.Slice a i n) g
-type_step defs tvars (Expr-F.Tab x a) g = operation_step defs (Expr-F.Tab x a) g
-type_step defs tvars (Expr-F.If c a b) g = if_type c a b g
-type_step defs tvars (Expr-F.Match a arms) g = match_type a arms g
-type_step defs tvars (Expr-F.Do items a) g = block_type items a g
-type_step defs tvars (Expr-F.Frame slots a) g = buffer_step defs tvars (Expr-F.Frame slots a) g
-type_step defs tvars (Expr-F.Alloc b n a) g = buffer_step defs tvars (Expr-F.Alloc b n a) g
-type_step defs tvars (Expr-F.While c a) g = while_type c a g
-type_step defs tvars (Expr-F.For x a b c) g = for_type x a b c g
-type_step defs tvars (Expr-F.Call x args es) g = instance_step defs tvars (Expr-F.Call x args es) g
-type_step defs tvars (Expr-F.Cases cases) g = cases_from cases g None
-type_step defs tvars (Expr-F.TagIs x a) g = instance_step defs tvars (Expr-F.TagIs x a) g
-type_step defs tvars (Expr-F.Part x j a) g = instance_step defs tvars (Expr-F.Part x j a) g
-type_step defs tvars (Expr-F.Fill k a) g = buffer_step defs tvars (Expr-F.Fill k a) g
+type_step defs tvars (Expr-F.Bin op i a b) g = binary_step (Expr-F.Bin op i a b) g
+type_step defs tvars (Expr-F.Shift left i a n) g = binary_step (Expr-F.Shift left i a n) g
+type_step defs tvars (Expr-F.Cmp op i a b) g = binary_step (Expr-F.Cmp op i a b) g
+type_step defs tvars (Expr-F.Not a) g = unary_step defs (Expr-F.Not a) g
+type_step defs tvars (Expr-F.Cast i j a) g = unary_step defs (Expr-F.Cast i j a) g
+type_step defs tvars (Expr-F.Hide i a) g = unary_step defs (Expr-F.Hide i a) g
+type_step defs tvars (Expr-F.Make x args es) g = applied_step defs tvars (Expr-F.Make x args es) g
+type_step defs tvars (Expr-F.Get y a) g = part_step defs (Expr-F.Get y a) g
+type_step defs tvars (Expr-F.Con x args es) g = applied_step defs tvars (Expr-F.Con x args es) g
+type_step defs tvars (Expr-F.Read a i) g = access_step (Expr-F.Read a i) g
+type_step defs tvars (Expr-F.Write a i v) g = access_step (Expr-F.Write a i v) g
+type_step defs tvars (Expr-F.Slice a i n) g = access_step (Expr-F.Slice a i n) g
+type_step defs tvars (Expr-F.Tab x a) g = unary_step defs (Expr-F.Tab x a) g
+type_step defs tvars (Expr-F.If c a b) g = flow_step (Expr-F.If c a b) g
+type_step defs tvars (Expr-F.Match a arms) g = flow_step (Expr-F.Match a arms) g
+type_step defs tvars (Expr-F.Do items a) g = flow_step (Expr-F.Do items a) g
+type_step defs tvars (Expr-F.Frame slots a) g = frame_step defs tvars (Expr-F.Frame slots a) g
+type_step defs tvars (Expr-F.Alloc b n a) g = frame_step defs tvars (Expr-F.Alloc b n a) g
+type_step defs tvars (Expr-F.While c a) g = loop_step (Expr-F.While c a) g
+type_step defs tvars (Expr-F.For x a b c) g = loop_step (Expr-F.For x a b c) g
+type_step defs tvars (Expr-F.Call x args es) g = applied_step defs tvars (Expr-F.Call x args es) g
+type_step defs tvars (Expr-F.Cases cases) g = flow_step (Expr-F.Cases cases) g
+type_step defs tvars (Expr-F.TagIs x a) g = part_step defs (Expr-F.TagIs x a) g
+type_step defs tvars (Expr-F.Part x j a) g = part_step defs (Expr-F.Part x j a) g
+type_step defs tvars (Expr-F.Fill k a) g = frame_step defs tvars (Expr-F.Fill k a) g
 
 -- the body stands in the scope with the variables of the pattern
 abbrev pub arm_type : List Def → Pat → Comp → ArmComp

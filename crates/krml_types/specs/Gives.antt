@@ -7,9 +7,3 @@ abbrev pub Gives : {A : Type 0} → Result A Untyped → Option A → Type 0
 Gives (Ok a) r = r ≡ Some a
 Gives (Err Fault) r = r ≡ None
 Gives (Err NoMemory) r = Unit {0}
-
--- the same of a function that changes what it is given to this
-abbrev pub Leads : {A : Type 0} → Result (Unit {0}) Untyped → Option A → A → Type 0
-Leads (Ok u) r now = r ≡ Some now
-Leads (Err Fault) r now = r ≡ None
-Leads (Err NoMemory) r now = Unit {0}

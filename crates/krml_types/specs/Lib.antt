@@ -4,6 +4,7 @@ pub mod Expressions
 pub mod Gives
 pub mod Holds
 pub mod Instances
+pub mod Judging
 pub mod Parts
 pub mod Patterns
 pub mod Scopes

@@ -1,27 +1,36 @@
 ghost use Rattle.std.specs.Prelude.{◌≡◌, IfOk};
 ghost use Rattle.krml_types.specs.Check.{fault_from, first_fault, IsChecked};
 
-use crate::definition::is_well_typed;
 use crate::index::Index;
+use crate::judge::Judge;
 use crate::refusal::TypeRefusal;
 use crate::typed_file::TypedFile;
 use krml_syntax::{Def, SourceFile};
 use krml_trace::NoMemory;
 use std::alloc::Global;
 
-#[tactic(auto, unfolding(crate::specs::Check::first_fault))]
+impl<'n, 'a> Judge<'n, 'a> {
+    /// The first definition that is not well typed.
+    #[tactic(auto, unfolding(crate::specs::Check::first_fault))]
+    fn first_fault(&mut self, defs: &'a [Def]) -> Result<Option<usize>, NoMemory>
+        requires { self.old.place.defs ≡ defs.now }
+        ensures { IfOk result (λ r. r ≡ first_fault defs.now) }
+    {
+        for (k, def) in defs.iter().enumerate() {
+            if !self.is_well_typed(k, def)? {
+                return Ok(Some(k));
+            }
+        }
+        Ok(None)
+    }
+}
+
 fn first_fault(alloc: Global, defs: &[Def]) -> Result<Option<usize>, NoMemory>
     ensures { IfOk result (λ r. r ≡ first_fault defs.now) }
 {
     let index = Index::new(alloc, defs)?;
-    let mut k = 0;
-    for def in defs {
-        if !is_well_typed(alloc, &index, k, def)? {
-            return Ok(Some(k));
-        }
-        k += 1;
-    }
-    Ok(None)
+    let mut judge = Judge::new(alloc, &index);
+    judge.first_fault(defs)
 }
 
 /// The file with its types, where all its definitions are well typed. Else `Fault` has the place of the first that is not.

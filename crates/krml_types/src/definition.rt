@@ -1,22 +1,24 @@
 //! Which definitions are well typed, each behind the definitions before it.
 
-ghost use Rattle.std.specs.Prelude.{◌≡◌, take, IfOk};
+ghost use Rattle.std.specs.Prelude.{◌≡◌, true, take, IfOk, OnOk};
 ghost use Rattle.krml_syntax.specs.declared.tree.Ty.{out-Ty};
 ghost use Rattle.krml_ast.specs.Names.{fun_named};
+ghost use Rattle.krml_intern.specs.Table.{Grows};
 ghost use Rattle.krml_types.specs.Expressions.{is_result as is_result_ty};
-ghost use Rattle.krml_types.specs.Definitions.{are_fields, are_cons, all_fit, param_vars, is_body, is_int_in, is_outside_in, are_outside, is_answer_in, is_entry, fun_ok, well_typed};
+ghost use Rattle.krml_types.specs.Gives.{Gives};
+ghost use Rattle.krml_types.specs.Parts.{demand};
+ghost use Rattle.krml_types.specs.Definitions.{ParamsGo};
+ghost use Rattle.krml_types.specs.Definitions.{are_fields, are_cons, all_fit, is_body, is_head, is_int_in, is_outside_in, are_outside, is_answer_in, is_entry, fun_ok, well_typed};
 
-use crate::expression::Context;
-use crate::formed::{are_arguments_before, is_flat, is_type_before, is_value};
+use crate::formed::{are_arguments_before, is_flat, is_type_before, is_unit, is_value};
 use crate::index::Index;
+use crate::judge::Judge;
 use crate::names::{all_new, are_cons_distinct, are_distinct, are_fields_distinct, is_new};
-use crate::scope::Scope;
-use crate::types::{erased, is_unit, same_ty};
-use crate::untyped::Untyped;
-use krml_ast::{NameKind, Vars};
+use crate::untyped::{Untyped, demand};
+use krml_ast::NameKind;
 use krml_syntax::{Con, Def, Expr, Field, IntTy, Ty};
 use krml_trace::{Name, NoMemory};
-use std::alloc::{AllocError, Global};
+use std::alloc::AllocError;
 
 fn are_fields(index: &Index<'_>, k: usize, tvars: &[Name], fields: &[Field]) -> bool
     ensures { result ≡ are_fields (take k index.now) index.now tvars.now fields.now }
@@ -51,19 +53,6 @@ fn all_fit(i: IntTy, nums: &[u64]) -> bool
     true
 }
 
-/// The parameters as variables, the first one the newest.
-fn param_vars(alloc: Global, params: &[Field]) -> Result<Vars, NoMemory>
-    ensures { IfOk result (λ r. r ≡ param_vars params.now) }
-{
-    let [param, rest @ ..] = params else {
-        return Ok(Vars::new(alloc));
-    };
-    let mut vars = param_vars(alloc, rest)?;
-    let name = Name::new(alloc, param.name.as_bytes())?;
-    vars.push(name, erased(alloc, &param.ty)?)?;
-    Ok(vars)
-}
-
 /// Whether a function may give values of a type.
 fn is_result(index: &Index<'_>, a: &Ty) -> bool
     ensures { result ≡ is_result_ty index.now a.now }
@@ -71,56 +60,82 @@ fn is_result(index: &Index<'_>, a: &Ty) -> bool
     is_unit(a) || is_flat(index, a)
 }
 
-/// Whether a function's body has the type of its result.
-fn is_body<'a>(
-    alloc: Global,
-    index: &'a Index<'_>,
-    tvars: &'a [Name],
-    params: &[Field],
-    gives: &Ty,
-    body: &Expr,
-) -> Result<bool, NoMemory>
-    ensures { IfOk result (λ r. r ≡ is_body index.now tvars.now params.now gives.now body.now) }
-{
-    let mut scope = Scope::new(param_vars(alloc, params)?);
-    let gives = erased(alloc, gives)?;
-    let context = Context {
-        alloc,
-        index,
-        tvars,
-    };
-    let found = context.type_of(&mut scope, body);
-    let Context {
-        alloc: _,
-        index: _,
-        tvars: _own,
-    } = context;
-    match found {
-        Ok(a) => Ok(same_ty(&a, &gives)),
-        Err(Untyped::Fault) => Ok(false),
-        Err(Untyped::NoMemory) => Err(AllocError),
+impl<'n, 'a> Judge<'n, 'a> {
+    /// Puts the parameters into scope, the first one as the newest.
+    fn params(&mut self, params: &'a [Field]) -> Result<(), Untyped>
+        ensures value { ParamsGo result params.now self.old.place self.new.place }
+        ensures grows { OnOk result (Grows self.old.table self.new.table) }
+    {
+        let [param, rest @ ..] = params else {
+            return Ok(());
+        };
+        self.params(rest)?;
+        let k = self.erased(&param.ty)?;
+        self.push(&param.name, k)?;
+        Ok(())
+    }
+
+    /// A function's body has the type of its result.
+    fn body(
+        &mut self,
+        tvars: &'a [Name],
+        params: &'a [Field],
+        gives: &'a Ty,
+        body: &'a Expr,
+    ) -> Result<(), Untyped>
+        ensures value { Gives result (demand (is_body self.old.place.defs tvars.now params.now gives.now body.now)) }
+        ensures defs { OnOk result (self.new.place.defs ≡ self.old.place.defs) }
+    {
+        self.begin(tvars);
+        self.params(params)?;
+        let k = self.type_of(body)?;
+        let j = self.erased(gives)?;
+        demand(self.same(k, j))
+    }
+
+    fn is_body(
+        &mut self,
+        tvars: &'a [Name],
+        params: &'a [Field],
+        gives: &'a Ty,
+        body: &'a Expr,
+    ) -> Result<bool, NoMemory>
+        ensures value { IfOk result (λ r. r ≡ is_body self.old.place.defs tvars.now params.now gives.now body.now) }
+        ensures defs { IfOk result (λ r. r ≡ true → self.new.place.defs ≡ self.old.place.defs) }
+    {
+        match self.body(tvars, params, gives, body) {
+            Ok(()) => Ok(true),
+            Err(Untyped::Fault) => Ok(false),
+            Err(Untyped::NoMemory) => Err(AllocError),
+        }
+    }
+
+    fn is_fun(
+        &mut self,
+        tvars: &'a [Name],
+        params: &'a [Field],
+        gives: &'a Ty,
+        body: &'a Expr,
+    ) -> Result<bool, NoMemory>
+        ensures value { IfOk result (λ r. r ≡ fun_ok self.old.place.defs tvars.now params.now gives.now body.now) }
+        ensures defs { IfOk result (λ r. r ≡ true → self.new.place.defs ≡ self.old.place.defs) }
+    {
+        if !is_head(self.index(), tvars, params, gives) {
+            return Ok(false);
+        }
+        self.is_body(tvars, params, gives, body)
     }
 }
 
-fn is_fun(
-    alloc: Global,
-    index: &Index<'_>,
-    tvars: &[Name],
-    params: &[Field],
-    gives: &Ty,
-    body: &Expr,
-) -> Result<bool, NoMemory>
-    ensures { IfOk result (λ r. r ≡ fun_ok index.now tvars.now params.now gives.now body.now) }
+/// Whether type variables, parameters and result of a function are well formed.
+fn is_head(index: &Index<'_>, tvars: &[Name], params: &[Field], gives: &Ty) -> bool
+    ensures { result ≡ is_head index.now tvars.now params.now gives.now }
 {
-    let head = are_distinct(tvars)
+    are_distinct(tvars)
         && are_fields_distinct(params)
         && are_fields(index, index.len(), tvars, params)
         && is_type_before(index, index.len(), tvars, gives)
-        && is_result(index, gives);
-    if !head {
-        return Ok(false);
-    }
-    is_body(alloc, index, tvars, params, gives, body)
+        && is_result(index, gives)
 }
 
 fn is_int(a: &Ty) -> bool
@@ -174,51 +189,45 @@ fn is_entry(index: &Index<'_>, x: &Name) -> bool
     }
 }
 
-/// Whether a definition at a place is well typed behind those before it.
-pub fn is_well_typed(
-    alloc: Global,
-    index: &Index<'_>,
-    k: usize,
-    def: &Def,
-) -> Result<bool, NoMemory>
-    ensures { IfOk result (λ r. r ≡ well_typed index.now (take k index.now) def.now) }
-{
-    match def {
-        Def::Struct { name, vars, fields } => Ok(
-            is_new(index, NameKind::Type, k, name)
-                && are_distinct(vars.as_slice())
-                && are_fields_distinct(fields.as_slice())
-                && are_fields(index, k, vars.as_slice(), fields.as_slice()),
-        ),
-        Def::Sum { name, vars, cons } => Ok(
-            is_new(index, NameKind::Type, k, name)
-                && (are_cons_distinct(cons.as_slice()) && all_new(index, k, cons.as_slice()))
-                && are_distinct(vars.as_slice())
-                && are_cons(index, k, vars.as_slice(), cons.as_slice()),
-        ),
-        Def::Table { name, ty, nums } => {
-            Ok(is_new(index, NameKind::Table, k, name) && all_fit(*ty, nums.as_slice()))
-        }
-        Def::Fun {
-            name,
-            vars,
-            params,
-            result,
-            body,
-        } => {
-            if is_new(index, NameKind::Fun, k, name) {
-                is_fun(
-                    alloc,
-                    index,
-                    vars.as_slice(),
-                    params.as_slice(),
-                    result,
-                    body,
-                )
-            } else {
-                Ok(false)
+impl<'n, 'a> Judge<'n, 'a> {
+    /// Whether a definition at a place is well typed behind those before it.
+    pub fn is_well_typed(&mut self, k: usize, def: &'a Def) -> Result<bool, NoMemory>
+        ensures value { IfOk result (λ r. r ≡ well_typed self.old.place.defs (take k self.old.place.defs) def.now) }
+        ensures defs { IfOk result (λ r. r ≡ true → self.new.place.defs ≡ self.old.place.defs) }
+    {
+        let index = self.index();
+        match def {
+            Def::Struct { name, vars, fields } => Ok(
+                is_new(index, NameKind::Type, k, name)
+                    && are_distinct(vars.as_slice())
+                    && are_fields_distinct(fields.as_slice())
+                    && are_fields(index, k, vars.as_slice(), fields.as_slice()),
+            ),
+            Def::Sum { name, vars, cons } => Ok(
+                is_new(index, NameKind::Type, k, name)
+                    && (are_cons_distinct(cons.as_slice()) && all_new(index, k, cons.as_slice()))
+                    && are_distinct(vars.as_slice())
+                    && are_cons(index, k, vars.as_slice(), cons.as_slice()),
+            ),
+            Def::Table { name, ty, nums } => {
+                Ok(is_new(index, NameKind::Table, k, name) && all_fit(*ty, nums.as_slice()))
+            }
+            Def::Fun {
+                name,
+                vars,
+                params,
+                result,
+                body,
+            } => {
+                if is_new(index, NameKind::Fun, k, name) {
+                    self.is_fun(vars.as_slice(), params.as_slice(), result, body)
+                } else {
+                    Ok(false)
+                }
+            }
+            Def::Entry { name } => {
+                Ok(is_new(index, NameKind::Entry, k, name) && is_entry(index, name))
             }
         }
-        Def::Entry { name } => Ok(is_new(index, NameKind::Entry, k, name) && is_entry(index, name)),
     }
 }

@@ -1,22 +1,22 @@
-ghost use Rattle.std.specs.Prelude.{◌≡◌, OnOk, map, None, Some};
-ghost use Rattle.krml_syntax.specs.declared.tree.Ty.{out-Ty};
-ghost use Rattle.krml_syntax.specs.declared.tree.Ty.TheVariants.{Buf};
+ghost use Rattle.std.specs.Prelude.{◌≡◌, List, Option, OnOk, map, Some, None};
+ghost use Rattle.krml_syntax.specs.declared.tree.Ty.{Ty, out-Ty};
+ghost use Rattle.krml_syntax.specs.declared.tree.Ty.TheVariants.{Bool, Unit, Buf};
 ghost use Rattle.krml_ast.specs.IsType.{int_ty};
-ghost use Rattle.krml_ast.specs.TypeParts.{element_of};
-ghost use Rattle.krml_types.specs.Gives.{Gives, Leads};
-ghost use Rattle.krml_types.specs.Types.{same_ty};
-ghost use Rattle.krml_types.specs.Expressions.{has, one_type, each_has, apply_type, are_tests, num_type, joined, may_alloc, items_from, arms_from, cases_from, operation_step, buffer_step, instance_step, turn_type, type_of, item_of, arm_of, case_of, layer_of};
+ghost use Rattle.krml_ast.specs.Names.{table_named};
+ghost use Rattle.krml_intern.specs.Table.{Grows};
+ghost use Rattle.krml_intern.specs.Unlabelled.{IsErased};
+ghost use Rattle.krml_types.specs.Gives.{Gives};
+ghost use Rattle.krml_types.specs.Instances.{Instance};
+ghost use Rattle.krml_types.specs.Judging.{GivesNumber, IsNumberOf, IsKnown, IsAt, AreParts, AreApplied, Leads};
+ghost use Rattle.krml_types.specs.Expressions.{has, one_type, each_has, apply_type, are_tests, num_type, joined, may_alloc, items_from, arms_from, cases_from, binary_step, unary_step, flow_step, loop_step, access_step, frame_step, applied_step, part_step, turn_type, type_of, item_of, arm_of, case_of, layer_of, is_result};
 
-use crate::index::Index;
-use crate::instance::{Instance, call_at, con_at, field_type, make_at, part_type, tag_type};
-use crate::pattern::bind;
-use crate::scope::Scope;
-use crate::types::{erased, int_ty, is_flat, is_type, is_unit, same_ty};
+use crate::applied::Applied;
+use crate::component::Component;
+use crate::formed::{is_flat, is_type, is_unit};
+use crate::judge::Judge;
 use crate::untyped::{Untyped, demand};
-use krml_ast::Vars;
 use krml_syntax::{Arm, Case, Expr, IntTy, Item, Ty};
-use krml_trace::{Box, Name, Width};
-use std::alloc::Global;
+use krml_trace::{Name, Width};
 
 /// The type of indices and lengths.
 const U32: IntTy = IntTy {
@@ -27,184 +27,243 @@ const U32: IntTy = IntTy {
 /// How many elements a buffer may have.
 const MAX_ELEMENTS: u32 = 65536;
 
-/// What the expressions of a definition are judged by: the definitions of its file, and its type variables.
-pub struct Context<'a, 'd> {
-    pub alloc: Global,
-    pub index: &'a Index<'d>,
-    pub tvars: &'a [Name],
-}
-
-impl<'a, 'd> Context<'a, 'd> {
-    /// The type of an expression in a scope.
+impl<'n, 'a> Judge<'n, 'a> {
+    /// The type of an expression where it stands.
     #[cycle(check)]
-    pub fn type_of<'s>(&self, scope: &mut Scope<'s>, e: &'s Expr) -> Result<Ty, Untyped>
-        ensures value { Gives result (type_of self.now.index.now self.now.tvars.now e.now scope.old) }
-        ensures scope { OnOk result (scope.new ≡ scope.old) }
+    pub fn type_of(&mut self, e: &'a Expr) -> Result<usize, Untyped>
+        ensures value { GivesNumber self.new.table result (type_of self.old.place.defs self.old.place.tvars e.now self.old.place.scope) }
+        ensures place { OnOk result (self.new.place ≡ self.old.place) }
+        ensures grows { OnOk result (Grows self.old.table self.new.table) }
     {
         match e {
-            Expr::Var(x) => scope.look(self.alloc, x)?.ok_or(Untyped::Fault),
-            Expr::Unit => Ok(Ty::Unit),
-            Expr::Bool(_) => Ok(Ty::Bool),
-            Expr::Num(i, n) => number(*i, *n),
-            Expr::If(c, a, b) => {
-                self.has(scope, c.get(), &Ty::Bool)?;
-                let ty = self.type_of(scope, a.get())?;
-                self.has(scope, b.get(), &ty)?;
-                Ok(ty)
-            }
-            Expr::Match(a, arms) => {
-                let s = self.type_of(scope, a.get())?;
-                demand(!is_unit(&s))?;
-                self.arms(scope, arms.as_slice(), &s)
-            }
-            Expr::Do(items, a) => {
-                let before = scope.len();
-                self.items(scope, items.as_slice())?;
-                let a = self.type_of(scope, a.get())?;
-                scope.cut(before);
-                Ok(a)
-            }
-            Expr::While(c, a) => {
-                let around = scope.enter(None);
-                self.has(scope, c.get(), &Ty::Bool)?;
-                self.has(scope, a.get(), &Ty::Unit)?;
-                let _ = scope.enter(around);
-                Ok(Ty::Unit)
-            }
-            Expr::For(x, a, b, c) => {
-                self.has_int(scope, a.get(), U32)?;
-                self.has_int(scope, b.get(), U32)?;
-                self.turn(scope, c.get(), x)
-            }
-            Expr::Cases(cases) => self.cases(scope, cases.as_slice()),
-            Expr::Bin(..) | Expr::Shift(..) | Expr::Cmp(..) => self.operation(scope, e),
-            Expr::Not(_) | Expr::Cast(..) | Expr::Hide(..) => self.operation(scope, e),
-            Expr::Tab(..) => self.operation(scope, e),
-            Expr::Make(..) | Expr::Con(..) | Expr::Call(..) => self.instance(scope, e),
-            Expr::Get(..) | Expr::TagIs(..) | Expr::Part(..) => self.instance(scope, e),
-            Expr::Read(..) | Expr::Write(..) | Expr::Slice(..) => self.buffer(scope, e),
-            Expr::Frame(..) | Expr::Alloc(..) | Expr::Fill(..) => self.buffer(scope, e),
+            Expr::Var(x) => self.look(x),
+            Expr::Unit => self.unit(),
+            Expr::Bool(_) => self.bool(),
+            Expr::Num(i, n) => self.number(*i, *n),
+            Expr::Bin(..) | Expr::Shift(..) | Expr::Cmp(..) => self.binary(e),
+            Expr::Not(_) | Expr::Cast(..) | Expr::Hide(..) | Expr::Tab(..) => self.unary(e),
+            Expr::If(..) | Expr::Match(..) | Expr::Do(..) | Expr::Cases(_) => self.flow(e),
+            Expr::While(..) | Expr::For(..) => self.repeated(e),
+            Expr::Read(..) | Expr::Write(..) | Expr::Slice(..) => self.access(e),
+            Expr::Frame(..) | Expr::Alloc(..) | Expr::Fill(..) => self.framed(e),
+            Expr::Make(..) | Expr::Con(..) | Expr::Call(..) => self.applied(e),
+            Expr::Get(..) | Expr::TagIs(..) | Expr::Part(..) => self.part(e),
         }
     }
 
-    /// An operation on numbers or truth values.
+    /// An operation on two numbers.
     #[cycle(check)]
-    fn operation<'s>(&self, scope: &mut Scope<'s>, e: &'s Expr) -> Result<Ty, Untyped>
-        ensures value { Gives result (operation_step self.now.index.now (layer_of self.now.index.now self.now.tvars.now e.now) scope.old) }
-        ensures scope { OnOk result (scope.new ≡ scope.old) }
+    fn binary(&mut self, e: &'a Expr) -> Result<usize, Untyped>
+        ensures value { GivesNumber self.new.table result (binary_step (layer_of self.old.place.defs self.old.place.tvars e.now) self.old.place.scope) }
+        ensures place { OnOk result (self.new.place ≡ self.old.place) }
+        ensures grows { OnOk result (Grows self.old.table self.new.table) }
     {
         match e {
             Expr::Bin(_, i, a, b) => {
-                self.has_int(scope, a.get(), *i)?;
-                self.has_int(scope, b.get(), *i)?;
-                Ok(int_ty(*i))
+                self.has_int(a.get(), *i)?;
+                self.has_int(b.get(), *i)?;
+                self.public(*i)
             }
             Expr::Shift(_, i, a, n) => {
-                self.has_int(scope, a.get(), *i)?;
-                self.has_int(scope, n.get(), U32)?;
-                Ok(int_ty(*i))
+                self.has_int(a.get(), *i)?;
+                self.has_int(n.get(), U32)?;
+                self.public(*i)
             }
             Expr::Cmp(_, i, a, b) => {
-                self.has_int(scope, a.get(), *i)?;
-                self.has_int(scope, b.get(), *i)?;
-                Ok(Ty::Bool)
-            }
-            Expr::Not(a) => {
-                self.has(scope, a.get(), &Ty::Bool)?;
-                Ok(Ty::Bool)
-            }
-            Expr::Cast(i, j, a) => {
-                self.has_int(scope, a.get(), *i)?;
-                Ok(int_ty(*j))
-            }
-            Expr::Hide(i, a) => {
-                self.has_int(scope, a.get(), *i)?;
-                Ok(int_ty(*i))
-            }
-            Expr::Tab(x, a) => {
-                let i = self.index.names().table_named(x).ok_or(Untyped::Fault)?;
-                self.has_int(scope, a.get(), U32)?;
-                Ok(int_ty(i))
+                self.has_int(a.get(), *i)?;
+                self.has_int(b.get(), *i)?;
+                self.bool()
             }
             _ => Err(Untyped::Fault),
         }
     }
 
-    /// An operation on buffers.
+    /// An operation on one number or truth value.
     #[cycle(check)]
-    fn buffer<'s>(&self, scope: &mut Scope<'s>, e: &'s Expr) -> Result<Ty, Untyped>
-        ensures value { Gives result (buffer_step self.now.index.now self.now.tvars.now (layer_of self.now.index.now self.now.tvars.now e.now) scope.old) }
-        ensures scope { OnOk result (scope.new ≡ scope.old) }
+    fn unary(&mut self, e: &'a Expr) -> Result<usize, Untyped>
+        ensures value { GivesNumber self.new.table result (unary_step self.old.place.defs (layer_of self.old.place.defs self.old.place.tvars e.now) self.old.place.scope) }
+        ensures place { OnOk result (self.new.place ≡ self.old.place) }
+        ensures grows { OnOk result (Grows self.old.table self.new.table) }
+    {
+        match e {
+            Expr::Not(a) => {
+                self.has_bool(a.get())?;
+                self.bool()
+            }
+            Expr::Cast(i, j, a) => {
+                self.has_int(a.get(), *i)?;
+                self.public(*j)
+            }
+            Expr::Hide(i, a) => {
+                self.has_int(a.get(), *i)?;
+                self.public(*i)
+            }
+            Expr::Tab(x, a) => {
+                let i = self.table(x)?;
+                self.has_int(a.get(), U32)?;
+                self.public(i)
+            }
+            _ => Err(Untyped::Fault),
+        }
+    }
+
+    /// Branches, or a block.
+    #[cycle(check)]
+    fn flow(&mut self, e: &'a Expr) -> Result<usize, Untyped>
+        ensures value { GivesNumber self.new.table result (flow_step (layer_of self.old.place.defs self.old.place.tvars e.now) self.old.place.scope) }
+        ensures place { OnOk result (self.new.place ≡ self.old.place) }
+        ensures grows { OnOk result (Grows self.old.table self.new.table) }
+    {
+        match e {
+            Expr::If(c, a, b) => {
+                self.has_bool(c.get())?;
+                let k = self.type_of(a.get())?;
+                self.has(b.get(), k)?;
+                Ok(k)
+            }
+            Expr::Match(a, arms) => {
+                let k = self.type_of(a.get())?;
+                demand(!self.is_unit(k))?;
+                self.arms(arms.as_slice(), k)
+            }
+            Expr::Do(items, a) => {
+                let before = self.len();
+                self.items(items.as_slice())?;
+                let k = self.type_of(a.get())?;
+                self.cut(before);
+                Ok(k)
+            }
+            Expr::Cases(cases) => self.cases(cases.as_slice()),
+            _ => Err(Untyped::Fault),
+        }
+    }
+
+    /// A loop.
+    #[cycle(check)]
+    fn repeated(&mut self, e: &'a Expr) -> Result<usize, Untyped>
+        ensures value { GivesNumber self.new.table result (loop_step (layer_of self.old.place.defs self.old.place.tvars e.now) self.old.place.scope) }
+        ensures place { OnOk result (self.new.place ≡ self.old.place) }
+        ensures grows { OnOk result (Grows self.old.table self.new.table) }
+    {
+        match e {
+            Expr::While(c, a) => {
+                let around = self.enter(None);
+                self.has_bool(c.get())?;
+                self.has_unit(a.get())?;
+                let _ = self.enter(around);
+                self.unit()
+            }
+            Expr::For(x, a, b, c) => {
+                self.has_int(a.get(), U32)?;
+                self.has_int(b.get(), U32)?;
+                self.turn(c.get(), x)
+            }
+            _ => Err(Untyped::Fault),
+        }
+    }
+
+    /// What is done with a buffer.
+    #[cycle(check)]
+    fn access(&mut self, e: &'a Expr) -> Result<usize, Untyped>
+        ensures value { GivesNumber self.new.table result (access_step (layer_of self.old.place.defs self.old.place.tvars e.now) self.old.place.scope) }
+        ensures place { OnOk result (self.new.place ≡ self.old.place) }
+        ensures grows { OnOk result (Grows self.old.table self.new.table) }
     {
         match e {
             Expr::Read(a, i) => {
-                let a = self.type_of(scope, a.get())?;
-                self.has_int(scope, i.get(), U32)?;
-                element_of(a)
+                let k = self.type_of(a.get())?;
+                self.has_int(i.get(), U32)?;
+                self.element(k)
             }
             Expr::Write(a, i, v) => {
-                let a = self.type_of(scope, a.get())?;
-                self.has_int(scope, i.get(), U32)?;
-                let element = element_of(a)?;
-                self.has(scope, v.get(), &element)?;
-                Ok(Ty::Unit)
+                let k = self.type_of(a.get())?;
+                self.has_int(i.get(), U32)?;
+                let element = self.element(k)?;
+                self.has(v.get(), element)?;
+                self.unit()
             }
             Expr::Slice(a, i, n) => {
-                let a = self.type_of(scope, a.get())?;
-                self.has_int(scope, i.get(), U32)?;
-                let element = element_of(a)?;
-                self.has_int(scope, n.get(), U32)?;
-                Ok(Ty::Buf(Box::new(self.alloc, element)?))
-            }
-            Expr::Frame(slots, a) => {
-                let around = scope.enter(Some(slots.as_slice()));
-                let a = self.type_of(scope, a.get())?;
-                let _ = scope.enter(around);
-                demand(is_unit(&a) || is_flat(self.index, &a))?;
-                Ok(a)
-            }
-            Expr::Alloc(b, n, a) => {
-                demand(scope.is_framed() && self.may_alloc(b, *n))?;
-                self.filled(scope, a.get(), erased(self.alloc, b)?)
-            }
-            Expr::Fill(k, a) => {
-                let element = scope.slot_type(self.alloc, *k)?;
-                self.filled(scope, a.get(), element)
+                let k = self.type_of(a.get())?;
+                self.has_int(i.get(), U32)?;
+                let element = self.element(k)?;
+                self.has_int(n.get(), U32)?;
+                self.buf(element)
             }
             _ => Err(Untyped::Fault),
         }
     }
 
-    /// A value of a struct or a sum, a part of one, or a call.
+    /// A frame, or a buffer that is made in one.
     #[cycle(check)]
-    fn instance<'s>(&self, scope: &mut Scope<'s>, e: &'s Expr) -> Result<Ty, Untyped>
-        ensures value { Gives result (instance_step self.now.index.now self.now.tvars.now (layer_of self.now.index.now self.now.tvars.now e.now) scope.old) }
-        ensures scope { OnOk result (scope.new ≡ scope.old) }
+    fn framed(&mut self, e: &'a Expr) -> Result<usize, Untyped>
+        ensures value { GivesNumber self.new.table result (frame_step self.old.place.defs self.old.place.tvars (layer_of self.old.place.defs self.old.place.tvars e.now) self.old.place.scope) }
+        ensures place { OnOk result (self.new.place ≡ self.old.place) }
+        ensures grows { OnOk result (Grows self.old.table self.new.table) }
+    {
+        match e {
+            Expr::Frame(slots, a) => {
+                let around = self.enter(Some(slots.as_slice()));
+                let k = self.type_of(a.get())?;
+                let _ = self.enter(around);
+                demand(self.is_result(k))?;
+                Ok(k)
+            }
+            Expr::Alloc(b, n, a) => {
+                demand(self.is_framed() && self.may_alloc(b, *n))?;
+                let element = self.erased(b)?;
+                self.filled(a.get(), element)
+            }
+            Expr::Fill(k, a) => {
+                let element = self.slot_type(*k)?;
+                self.filled(a.get(), element)
+            }
+            _ => Err(Untyped::Fault),
+        }
+    }
+
+    /// A value of a struct or a sum, or a call.
+    #[cycle(check)]
+    fn applied(&mut self, e: &'a Expr) -> Result<usize, Untyped>
+        ensures value { GivesNumber self.new.table result (applied_step self.old.place.defs self.old.place.tvars (layer_of self.old.place.defs self.old.place.tvars e.now) self.old.place.scope) }
+        ensures place { OnOk result (self.new.place ≡ self.old.place) }
+        ensures grows { OnOk result (Grows self.old.table self.new.table) }
     {
         match e {
             Expr::Make(x, args, es) => {
-                let at = make_at(self.alloc, self.index, self.tvars, x, args.as_slice())?;
-                self.apply(scope, es.as_slice(), at)
+                let at = self.make_at(x, args.as_slice())?;
+                self.apply(es.as_slice(), at)
             }
             Expr::Con(x, args, es) => {
-                let at = con_at(self.alloc, self.index, self.tvars, x, args.as_slice())?;
-                self.apply(scope, es.as_slice(), at)
+                let at = self.con_at(x, args.as_slice())?;
+                self.apply(es.as_slice(), at)
             }
             Expr::Call(x, args, es) => {
-                let at = call_at(self.alloc, self.index, self.tvars, x, args.as_slice())?;
-                self.apply(scope, es.as_slice(), at)
+                let at = self.call_at(x, args.as_slice())?;
+                self.apply(es.as_slice(), at)
             }
+            _ => Err(Untyped::Fault),
+        }
+    }
+
+    /// A part of a struct or a sum.
+    #[cycle(check)]
+    fn part(&mut self, e: &'a Expr) -> Result<usize, Untyped>
+        ensures value { GivesNumber self.new.table result (part_step self.old.place.defs (layer_of self.old.place.defs self.old.place.tvars e.now) self.old.place.scope) }
+        ensures place { OnOk result (self.new.place ≡ self.old.place) }
+        ensures grows { OnOk result (Grows self.old.table self.new.table) }
+    {
+        match e {
             Expr::Get(y, a) => {
-                let a = self.type_of(scope, a.get())?;
-                field_type(self.alloc, self.index, y, &a)
+                let k = self.type_of(a.get())?;
+                self.field_type(y, k)
             }
             Expr::TagIs(x, a) => {
-                let a = self.type_of(scope, a.get())?;
-                tag_type(self.index, x, &a)
+                let k = self.type_of(a.get())?;
+                self.tag_type(x, k)
             }
             Expr::Part(x, j, a) => {
-                let a = self.type_of(scope, a.get())?;
-                part_type(self.alloc, self.index, x, *j, &a)
+                let k = self.type_of(a.get())?;
+                self.part_type(x, *j, k)
             }
             _ => Err(Untyped::Fault),
         }
@@ -212,213 +271,244 @@ impl<'a, 'd> Context<'a, 'd> {
 
     /// The expression has the type.
     #[cycle(check)]
-    fn has<'s>(&self, scope: &mut Scope<'s>, e: &'s Expr, a: &Ty) -> Result<(), Untyped>
-        ensures value { Gives result (has (type_of self.now.index.now self.now.tvars.now e.now) a.now scope.old) }
-        ensures scope { OnOk result (scope.new ≡ scope.old) }
+    fn has(&mut self, e: &'a Expr, k: usize) -> Result<(), Untyped>
+        ensures value { (a : Ty) → IsErased self.old.table k a → Gives result (has (type_of self.old.place.defs self.old.place.tvars e.now) a self.old.place.scope) }
+        ensures place { OnOk result (self.new.place ≡ self.old.place) }
+        ensures grows { OnOk result (Grows self.old.table self.new.table) }
     {
-        let b = self.type_of(scope, e)?;
-        demand(same_ty(&b, a))
+        let j = self.type_of(e)?;
+        demand(self.same(j, k))
+    }
+
+    /// The expression is a truth value.
+    #[cycle(check)]
+    fn has_bool(&mut self, e: &'a Expr) -> Result<(), Untyped>
+        ensures value { Gives result (has (type_of self.old.place.defs self.old.place.tvars e.now) Bool self.old.place.scope) }
+        ensures place { OnOk result (self.new.place ≡ self.old.place) }
+        ensures grows { OnOk result (Grows self.old.table self.new.table) }
+    {
+        let k = self.type_of(e)?;
+        self.is_bool(k)
+    }
+
+    /// The expression gives nothing.
+    #[cycle(check)]
+    fn has_unit(&mut self, e: &'a Expr) -> Result<(), Untyped>
+        ensures value { Gives result (has (type_of self.old.place.defs self.old.place.tvars e.now) Unit self.old.place.scope) }
+        ensures place { OnOk result (self.new.place ≡ self.old.place) }
+        ensures grows { OnOk result (Grows self.old.table self.new.table) }
+    {
+        let k = self.type_of(e)?;
+        demand(self.is_unit(k))
     }
 
     /// The expression has the integer type, without its label.
     #[cycle(check)]
-    fn has_int<'s>(&self, scope: &mut Scope<'s>, e: &'s Expr, i: IntTy) -> Result<(), Untyped>
-        ensures value { Gives result (has (type_of self.now.index.now self.now.tvars.now e.now) (int_ty i) scope.old) }
-        ensures scope { OnOk result (scope.new ≡ scope.old) }
+    fn has_int(&mut self, e: &'a Expr, i: IntTy) -> Result<(), Untyped>
+        ensures value { Gives result (has (type_of self.old.place.defs self.old.place.tvars e.now) (int_ty i) self.old.place.scope) }
+        ensures place { OnOk result (self.new.place ≡ self.old.place) }
+        ensures grows { OnOk result (Grows self.old.table self.new.table) }
     {
-        let b = self.type_of(scope, e)?;
-        demand(is_int(&b, i))
+        let k = self.type_of(e)?;
+        self.is_int(k, i)
     }
 
     /// A first element gives a buffer.
     #[cycle(check)]
-    fn filled<'s>(&self, scope: &mut Scope<'s>, e: &'s Expr, element: Ty) -> Result<Ty, Untyped>
-        ensures value { Gives result (one_type (type_of self.now.index.now self.now.tvars.now e.now) element (Buf element) scope.old) }
-        ensures scope { OnOk result (scope.new ≡ scope.old) }
+    fn filled(&mut self, e: &'a Expr, element: usize) -> Result<usize, Untyped>
+        requires { IsKnown self.old.table element }
+        ensures value { (a : Ty) → IsErased self.old.table element a → GivesNumber self.new.table result (one_type (type_of self.old.place.defs self.old.place.tvars e.now) a (Buf a) self.old.place.scope) }
+        ensures place { OnOk result (self.new.place ≡ self.old.place) }
+        ensures grows { OnOk result (Grows self.old.table self.new.table) }
     {
-        self.has(scope, e, &element)?;
-        Ok(Ty::Buf(Box::new(self.alloc, element)?))
+        self.has(e, element)?;
+        self.buf(element)
     }
 
     /// Operands of the types that an instance takes give what it gives.
     #[cycle(check)]
-    fn apply<'s>(&self, scope: &mut Scope<'s>, es: &'s [Expr], at: Instance) -> Result<Ty, Untyped>
-        ensures value { Gives result (apply_type (map (type_of self.now.index.now self.now.tvars.now) es.now) (Some at) scope.old) }
-        ensures scope { OnOk result (scope.new ≡ scope.old) }
+    fn apply(&mut self, es: &'a [Expr], at: Applied) -> Result<usize, Untyped>
+        requires { IsAt self.old.table at.takes }
+        ensures value { (i : Instance) → AreApplied self.old.table self.old.place.defs at i → GivesNumber self.new.table result (apply_type (map (type_of self.old.place.defs self.old.place.tvars) es.now) (Some i) self.old.place.scope) }
+        ensures place { OnOk result (self.new.place ≡ self.old.place) }
+        ensures grows { OnOk result (Grows self.old.table self.new.table) }
     {
-        let Instance { takes, gives } = at;
-        self.each_has(scope, es, takes.as_slice())?;
-        Ok(gives)
+        self.each_has(es, at.kind, at.takes)?;
+        Ok(at.gives)
     }
 
-    /// Each expression has its type.
+    /// Each expression has the type of its component.
     #[cycle(check)]
-    fn each_has<'s>(
-        &self,
-        scope: &mut Scope<'s>,
-        es: &'s [Expr],
-        types: &[Ty],
-    ) -> Result<(), Untyped>
-        ensures value { Gives result (each_has (map (type_of self.now.index.now self.now.tvars.now) es.now) types.now scope.old) }
-        ensures scope { OnOk result (scope.new ≡ scope.old) }
+    fn each_has(&mut self, es: &'a [Expr], kind: Component, k: usize) -> Result<(), Untyped>
+        requires { IsAt self.old.table k }
+        ensures value { (types : List Ty) → AreParts self.old.table self.old.place.defs kind k types → Gives result (each_has (map (type_of self.old.place.defs self.old.place.tvars) es.now) types self.old.place.scope) }
+        ensures place { OnOk result (self.new.place ≡ self.old.place) }
+        ensures grows { OnOk result (Grows self.old.table self.new.table) }
     {
-        let mut left = types;
-        for e in es {
-            let [a, rest @ ..] = left else {
-                return Err(Untyped::Fault);
-            };
-            self.has(scope, e, a)?;
-            left = rest;
+        for (j, e) in es.iter().enumerate() {
+            let part = self.component(kind, k, j)?;
+            self.has(e, part)?;
         }
-        demand(left.is_empty())
+        demand(self.ends(kind, k, es.len()))
     }
 
     /// The body of a `for` over a variable.
     #[cycle(check)]
-    fn turn<'s>(&self, scope: &mut Scope<'s>, e: &'s Expr, x: &Name) -> Result<Ty, Untyped>
-        ensures value { Gives result (turn_type x.now (type_of self.now.index.now self.now.tvars.now e.now) scope.old) }
-        ensures scope { OnOk result (scope.new ≡ scope.old) }
+    fn turn(&mut self, e: &'a Expr, x: &'a Name) -> Result<usize, Untyped>
+        ensures value { GivesNumber self.new.table result (turn_type x.now (type_of self.old.place.defs self.old.place.tvars e.now) self.old.place.scope) }
+        ensures place { OnOk result (self.new.place ≡ self.old.place) }
+        ensures grows { OnOk result (Grows self.old.table self.new.table) }
     {
-        let around = scope.enter(None);
-        let before = scope.len();
-        scope.push(Name::new(self.alloc, x.as_bytes())?, int_ty(U32))?;
-        self.has(scope, e, &Ty::Unit)?;
-        scope.cut(before);
-        let _ = scope.enter(around);
-        Ok(Ty::Unit)
+        let around = self.enter(None);
+        let before = self.len();
+        let k = self.public(U32)?;
+        self.push(x, k)?;
+        self.has_unit(e)?;
+        self.cut(before);
+        let _ = self.enter(around);
+        self.unit()
     }
 
     /// The one type of the branches of a match on a value of a type.
     #[cycle(check)]
-    fn arms<'s>(&self, scope: &mut Scope<'s>, arms: &'s [Arm], s: &Ty) -> Result<Ty, Untyped>
-        ensures value { Gives result (arms_from (map (arm_of self.now.index.now self.now.tvars.now) arms.now) s.now scope.old None) }
-        ensures scope { OnOk result (scope.new ≡ scope.old) }
+    fn arms(&mut self, arms: &'a [Arm], k: usize) -> Result<usize, Untyped>
+        requires { IsKnown self.old.table k }
+        ensures value { (s : Ty) → IsErased self.old.table k s → GivesNumber self.new.table result (arms_from (map (arm_of self.old.place.defs self.old.place.tvars) arms.now) s self.old.place.scope None) }
+        ensures place { OnOk result (self.new.place ≡ self.old.place) }
+        ensures grows { OnOk result (Grows self.old.table self.new.table) }
     {
         let mut found = None;
         for arm in arms {
-            let a = self.arm(scope, arm, s)?;
-            found = Some(joined(found, a)?);
+            let j = self.arm(arm, k)?;
+            found = Some(self.joined(found, j)?);
         }
         found.ok_or(Untyped::Fault)
     }
 
     #[cycle(check)]
-    fn arm<'s>(&self, scope: &mut Scope<'s>, arm: &'s Arm, s: &Ty) -> Result<Ty, Untyped>
-        ensures value { Gives result (arm_of self.now.index.now self.now.tvars.now arm.now s.now scope.old) }
-        ensures scope { OnOk result (scope.new ≡ scope.old) }
+    fn arm(&mut self, arm: &'a Arm, k: usize) -> Result<usize, Untyped>
+        requires { IsKnown self.old.table k }
+        ensures value { (s : Ty) → IsErased self.old.table k s → GivesNumber self.new.table result (arm_of self.old.place.defs self.old.place.tvars arm.now s self.old.place.scope) }
+        ensures place { OnOk result (self.new.place ≡ self.old.place) }
+        ensures grows { OnOk result (Grows self.old.table self.new.table) }
     {
-        let mut vars = Vars::new(self.alloc);
-        bind(self.alloc, self.index, &mut vars, &arm.pat, s)?;
-        demand(vars.are_distinct())?;
-        let before = scope.len();
-        scope.append(vars)?;
-        let a = self.type_of(scope, &arm.body)?;
-        scope.cut(before);
-        Ok(a)
+        let before = self.len();
+        self.bind(&arm.pat, k)?;
+        demand(self.are_distinct(before))?;
+        let j = self.type_of(&arm.body)?;
+        self.cut(before);
+        Ok(j)
     }
 
     /// Into the scope behind the items.
     #[cycle(check)]
-    fn items<'s>(&self, scope: &mut Scope<'s>, items: &'s [Item]) -> Result<(), Untyped>
-        ensures { Leads result (items_from (map (item_of self.now.index.now self.now.tvars.now) items.now) scope.old) scope.new }
+    fn items(&mut self, items: &'a [Item]) -> Result<(), Untyped>
+        ensures value { Leads result (items_from (map (item_of self.old.place.defs self.old.place.tvars) items.now) self.old.place.scope) self.old.place self.new.place }
+        ensures grows { OnOk result (Grows self.old.table self.new.table) }
     {
         for item in items {
-            self.item(scope, item)?;
+            self.item(item)?;
         }
         Ok(())
     }
 
     #[cycle(check)]
-    fn item<'s>(&self, scope: &mut Scope<'s>, item: &'s Item) -> Result<(), Untyped>
-        ensures { Leads result (item_of self.now.index.now self.now.tvars.now item.now scope.old) scope.new }
+    fn item(&mut self, item: &'a Item) -> Result<(), Untyped>
+        ensures value { Leads result (item_of self.old.place.defs self.old.place.tvars item.now self.old.place.scope) self.old.place self.new.place }
+        ensures grows { OnOk result (Grows self.old.table self.new.table) }
     {
         match item {
             Item::Let(x, b, a) => {
-                demand(is_type(self.index, self.tvars, b) && !is_unit(b))?;
-                let ty = erased(self.alloc, b)?;
-                self.has(scope, a, &ty)?;
-                scope.push(Name::new(self.alloc, x.as_bytes())?, ty)?;
+                demand(is_type(self.index(), self.tvars(), b) && !is_unit(b))?;
+                let k = self.erased(b)?;
+                self.has(a, k)?;
+                self.push(x, k)?;
                 Ok(())
             }
-            Item::Run(a) => self.has(scope, a, &Ty::Unit),
+            Item::Run(a) => self.has_unit(a),
         }
     }
 
     /// The one type of cases.
     #[cycle(check)]
-    fn cases<'s>(&self, scope: &mut Scope<'s>, cases: &'s [Case]) -> Result<Ty, Untyped>
-        ensures value { Gives result (cases_from (map (case_of self.now.index.now self.now.tvars.now) cases.now) scope.old None) }
-        ensures scope { OnOk result (scope.new ≡ scope.old) }
+    fn cases(&mut self, cases: &'a [Case]) -> Result<usize, Untyped>
+        ensures value { GivesNumber self.new.table result (cases_from (map (case_of self.old.place.defs self.old.place.tvars) cases.now) self.old.place.scope None) }
+        ensures place { OnOk result (self.new.place ≡ self.old.place) }
+        ensures grows { OnOk result (Grows self.old.table self.new.table) }
     {
         let mut found = None;
         for case in cases {
-            let a = self.case(scope, case)?;
-            found = Some(joined(found, a)?);
+            let j = self.case(case)?;
+            found = Some(self.joined(found, j)?);
         }
         found.ok_or(Untyped::Fault)
     }
 
     #[cycle(check)]
-    fn case<'s>(&self, scope: &mut Scope<'s>, case: &'s Case) -> Result<Ty, Untyped>
-        ensures value { Gives result (case_of self.now.index.now self.now.tvars.now case.now scope.old) }
-        ensures scope { OnOk result (scope.new ≡ scope.old) }
+    fn case(&mut self, case: &'a Case) -> Result<usize, Untyped>
+        ensures value { GivesNumber self.new.table result (case_of self.old.place.defs self.old.place.tvars case.now self.old.place.scope) }
+        ensures place { OnOk result (self.new.place ≡ self.old.place) }
+        ensures grows { OnOk result (Grows self.old.table self.new.table) }
     {
-        self.are_tests(scope, case.tests.as_slice())?;
-        self.type_of(scope, &case.body)
+        self.are_tests(case.tests.as_slice())?;
+        self.type_of(&case.body)
     }
 
     #[cycle(check)]
-    fn are_tests<'s>(&self, scope: &mut Scope<'s>, tests: &'s [Expr]) -> Result<(), Untyped>
-        ensures value { Gives result (are_tests (map (type_of self.now.index.now self.now.tvars.now) tests.now) scope.old) }
-        ensures scope { OnOk result (scope.new ≡ scope.old) }
+    fn are_tests(&mut self, tests: &'a [Expr]) -> Result<(), Untyped>
+        ensures value { Gives result (are_tests (map (type_of self.old.place.defs self.old.place.tvars) tests.now) self.old.place.scope) }
+        ensures place { OnOk result (self.new.place ≡ self.old.place) }
+        ensures grows { OnOk result (Grows self.old.table self.new.table) }
     {
         for test in tests {
-            self.has(scope, test, &Ty::Bool)?;
+            self.has_bool(test)?;
         }
         Ok(())
     }
 
+    /// The type of the numbers of a table.
+    fn table(&self, x: &Name) -> Result<IntTy, Untyped>
+        ensures { Gives result (table_named self.now.place.defs x.now) }
+    {
+        self.index().names().table_named(x).ok_or(Untyped::Fault)
+    }
+
     /// A buffer of so many elements of a type may be made.
     fn may_alloc(&self, b: &Ty, n: u32) -> bool
-        ensures { result ≡ may_alloc self.now.index.now self.now.tvars.now b.now n }
+        ensures { result ≡ may_alloc self.now.place.defs self.now.place.tvars b.now n }
     {
-        is_type(self.index, self.tvars, b) && is_flat(self.index, b) && 1 <= n && n <= MAX_ELEMENTS
+        is_type(self.index(), self.tvars(), b)
+            && is_flat(self.index(), b)
+            && 1 <= n
+            && n <= MAX_ELEMENTS
     }
-}
 
-/// The type is the integer type, without its label.
-fn is_int(a: &Ty, i: IntTy) -> bool
-    ensures { result ≡ same_ty a.now (int_ty i) }
-{
-    same_ty(a, &int_ty(i))
-}
-
-fn number(i: IntTy, n: u64) -> Result<Ty, Untyped>
-    ensures { Gives result (num_type i n) }
-{
-    demand(i.width.fits(n))?;
-    Ok(int_ty(i))
-}
-
-/// The type of the elements of a buffer.
-fn element_of(a: Ty) -> Result<Ty, Untyped>
-    ensures { Gives result (element_of (out-Ty a)) }
-{
-    match a {
-        Ty::Buf(element) => Ok(element.into_inner()),
-        _ => Err(Untyped::Fault),
+    /// A function or a frame may give values of a type.
+    fn is_result(&self, k: usize) -> bool
+        ensures { (a : Ty) → IsErased self.now.table k a → result ≡ is_result self.now.place.defs a }
+    {
+        self.is_unit(k) || self.is_flat(k)
     }
-}
 
-/// The one type of the branches so far and of another.
-fn joined(found: Option<Ty>, a: Ty) -> Result<Ty, Untyped>
-    ensures { Gives result (joined found a) }
-{
-    match found {
-        None => Ok(a),
-        Some(ty) => {
-            demand(same_ty(&a, &ty))?;
-            Ok(ty)
+    fn number(&mut self, i: IntTy, n: u64) -> Result<usize, Untyped>
+        ensures value { GivesNumber self.new.table result (num_type i n) }
+        ensures place { self.new.place ≡ self.old.place }
+        ensures grows { Grows self.old.table self.new.table }
+    {
+        demand(i.width.fits(n))?;
+        self.public(i)
+    }
+
+    /// The one type of the branches so far and of another.
+    fn joined(&self, found: Option<usize>, k: usize) -> Result<usize, Untyped>
+        ensures { (r : Option Ty) (a : Ty) → IsNumberOf self.now.table found r → IsErased self.now.table k a → GivesNumber self.now.table result (joined r a) }
+    {
+        match found {
+            None => Ok(k),
+            Some(j) => {
+                demand(self.same(k, j))?;
+                Ok(j)
+            }
         }
     }
 }

@@ -1,6 +1,8 @@
 //! Which types are flat, and which are well formed.
 
 ghost use Rattle.std.specs.Prelude.{◌≡◌, take};
+ghost use Rattle.krml_syntax.specs.declared.tree.Ty.{out-Ty};
+ghost use Rattle.krml_ast.specs.IsType.{is_unit_in};
 ghost use Rattle.krml_ast.specs.Names.{type_named};
 ghost use Rattle.krml_ast.specs.Places.{is_among};
 ghost use Rattle.krml_types.specs.Parts.{is_value as is_value_ty};
@@ -8,10 +10,15 @@ ghost use Rattle.krml_types.specs.Types.{is_flat, takes, is_type_by, are_argumen
 
 use crate::index::Index;
 use crate::names::is_given;
-use crate::types::is_unit;
 use krml_ast::NameKind;
 use krml_syntax::Ty;
 use krml_trace::Name;
+
+pub fn is_unit(a: &Ty) -> bool
+    ensures { result ≡ is_unit_in (out-Ty a.now) }
+{
+    matches!(a, Ty::Unit)
+}
 
 /// Whether a type is one of values.
 pub fn is_value(a: &Ty) -> bool

@@ -3,7 +3,7 @@
 
 ghost use Rattle.std.specs.Prelude.{◌≡◌, [], IfOk, map};
 ghost use Rattle.krml_syntax.specs.declared.tree.Ty.{out-Ty};
-ghost use Rattle.krml_types.specs.Holds.{holds_by, struct_place, part_in, parts_of, parts_in, part_holds, any_part, set_more, same_table, swept, holders};
+ghost use Rattle.krml_types.specs.Holds.{is_set, holds_by, struct_place, at_place, part_in, parts_of, parts_in, part_holds, any_part, set_more, same_table, swept, holders};
 
 use crate::part::Part;
 use krml_ast::{NameKind, Names};
@@ -18,6 +18,13 @@ pub fn holds_by(names: &Names<'_>, table: &[bool], a: &Ty) -> bool
     part_holds(table, &part_of(names, a))
 }
 
+/// Whether a struct that is set has the name, and no sum before it.
+pub fn is_set(names: &Names<'_>, table: &[bool], x: &Name) -> bool
+    ensures { result ≡ is_set names.now table.now x.now }
+{
+    part_holds(table, &part_named(names, x))
+}
+
 /// The place of the first struct of a name, where no sum of that name stands before it.
 fn struct_place(names: &Names<'_>, x: &Name) -> Option<usize>
     ensures { result ≡ struct_place names.now x.now }
@@ -26,15 +33,21 @@ fn struct_place(names: &Names<'_>, x: &Name) -> Option<usize>
     names.place(NameKind::Type, x)
 }
 
+fn part_named(names: &Names<'_>, x: &Name) -> Part
+    ensures { result ≡ at_place (struct_place names.now x.now) }
+{
+    match struct_place(names, x) {
+        Some(k) => Part::At(k),
+        None => Part::Nothing,
+    }
+}
+
 fn part_of(names: &Names<'_>, a: &Ty) -> Part
     ensures { result ≡ part_in names.now (out-Ty a.now) }
 {
     match a {
         Ty::Buf(_) => Part::Buffer,
-        Ty::Named(x, _) => match struct_place(names, x) {
-            Some(k) => Part::At(k),
-            None => Part::Nothing,
-        },
+        Ty::Named(x, _) => part_named(names, x),
         _ => Part::Nothing,
     }
 }

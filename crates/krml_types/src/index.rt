@@ -1,10 +1,10 @@
 ghost use Rattle.std.specs.Prelude.{◌≡◌, length, IfOk};
-ghost use Rattle.krml_types.specs.Holds.{holds_by, holders};
+ghost use Rattle.krml_types.specs.Holds.{holds_by, is_set, holders};
 
-use crate::holds::{holds_by, settled};
+use crate::holds::{holds_by, is_set, settled};
 use krml_ast::Names;
 use krml_syntax::{Def, Ty};
-use krml_trace::{NoMemory, Seq};
+use krml_trace::{Name, NoMemory, Seq};
 use std::alloc::Global;
 use std::marker::Model;
 
@@ -58,5 +58,12 @@ impl<'a> Index<'a> {
         ensures { result ≡ holds_by self.now (holders self.now) a.now }
     {
         holds_by(&self.names, self.table.as_slice(), a)
+    }
+
+    /// Whether the struct of a name holds a buffer.
+    pub fn is_holder(&self, x: &Name) -> bool
+        ensures { result ≡ is_set self.now (holders self.now) x.now }
+    {
+        is_set(&self.names, self.table.as_slice(), x)
     }
 }

@@ -1,59 +1,54 @@
-ghost use Rattle.std.specs.Prelude.{◌≡◌, IfOk, map, option_map};
-ghost use Rattle.krml_syntax.specs.declared.tree.Ty.{out-Ty};
-ghost use Rattle.krml_ast.specs.IsType.{erased as erased_of};
-ghost use Rattle.krml_ast.specs.Typing.{at as type_there, fields_at};
-ghost use Rattle.krml_types.specs.Gives.{Gives};
-ghost use Rattle.krml_types.specs.Parts.{args_of};
-ghost use Rattle.krml_types.specs.Instances.{serve, named_at, make_at, con_at, call_at, field_type, make_parts, con_parts, part_type, tag_type};
+//! Structs, constructors and functions at type arguments, by numbers of types.
 
+ghost use Rattle.std.specs.Prelude.{◌≡◌, map, option_map};
+ghost use Rattle.krml_syntax.specs.declared.tree.Ty.{Ty, out-Ty};
+ghost use Rattle.krml_ast.specs.Names.{field_named};
+ghost use Rattle.krml_ast.specs.declared.kind.NameKind.{NameKind};
+ghost use Rattle.krml_intern.specs.Table.{Grows};
+ghost use Rattle.krml_intern.specs.Unlabelled.{IsErased};
+ghost use Rattle.krml_types.specs.Instances.{written, serve, make_at, con_at, call_at, field_type, make_parts, con_parts, part_type, tag_type};
+ghost use Rattle.krml_types.specs.Judging.{IsKnown, GivesNumber, GivesApplied, GivesParts, place_in};
+
+use crate::applied::Applied;
+use crate::component::Component;
+use crate::formed::are_arguments;
 use crate::index::Index;
-use crate::types::{are_arguments, at, erased};
+use crate::judge::Judge;
 use crate::untyped::{Untyped, demand};
-use krml_ast::{field_named, name_of};
 use krml_syntax::{Field, Ty};
-use krml_trace::{Name, NoMemory, Seq};
-use std::alloc::Global;
+use krml_trace::Name;
 
-/// A struct, a constructor or a function at type arguments: the types of the operands, and that of the whole.
-#[derive(Drop)]
-pub struct Instance {
-    pub takes: Seq<Ty>,
-    pub gives: Ty,
-}
-
-fn fields_at(
-    alloc: Global,
-    vars: &[Name],
-    args: &[Ty],
-    fields: &[Field],
-) -> Result<Seq<Ty>, NoMemory>
-    ensures { IfOk result (λ r. r ≡ fields_at vars.now args.now fields.now) }
+/// The type variables of the struct, constructor or function of a name, and a type that it writes, by its place among those of a
+/// kind.
+pub fn written<'a>(
+    index: &Index<'a>,
+    kind: Component,
+    x: &Name,
+    j: usize,
+) -> Option<(&'a [Name], &'a Ty)>
+    ensures { option_map (λ w. (w.0.now, w.1.now)) result ≡ written index.now kind x.now j }
 {
-    let mut types = Seq::new(alloc);
-    for field in fields {
-        types.push(at(alloc, vars, args, &field.ty)?)?;
+    match kind {
+        Component::Field => {
+            let def = index.names().struct_named(x)?;
+            let field = def.fields.get(j)?;
+            Some((def.vars, &field.ty))
+        }
+        Component::Argument => {
+            let def = index.names().con_named(x)?;
+            let ty = def.args.get(j)?;
+            Some((def.vars, ty))
+        }
+        Component::Parameter => {
+            let def = index.names().fun_named(x)?;
+            let param = def.params.get(j)?;
+            Some((def.vars, &param.ty))
+        }
+        Component::Result => {
+            let def = index.names().fun_named(x)?;
+            Some((def.vars, def.result))
+        }
     }
-    Ok(types)
-}
-
-fn types_at(alloc: Global, vars: &[Name], args: &[Ty], types: &[Ty]) -> Result<Seq<Ty>, NoMemory>
-    ensures { IfOk result (λ r. r ≡ map (type_there vars.now args.now) types.now) }
-{
-    let mut found = Seq::new(alloc);
-    for ty in types {
-        found.push(at(alloc, vars, args, ty)?)?;
-    }
-    Ok(found)
-}
-
-fn each_erased(alloc: Global, types: &[Ty]) -> Result<Seq<Ty>, NoMemory>
-    ensures { IfOk result (λ r. r ≡ map erased_of types.now) }
-{
-    let mut found = Seq::new(alloc);
-    for ty in types {
-        found.push(erased(alloc, ty)?)?;
-    }
-    Ok(found)
 }
 
 /// Type arguments serve for type variables.
@@ -63,149 +58,146 @@ fn serve(index: &Index<'_>, tvars: &[Name], vars: &[Name], args: &[Ty]) -> bool
     args.len() == vars.len() && are_arguments(index, tvars, args)
 }
 
-/// The struct or sum of a name at type arguments.
-fn named_at(alloc: Global, x: &Name, args: &[Ty]) -> Result<Ty, NoMemory>
-    ensures { IfOk result (λ r. r ≡ named_at x.now args.now) }
+/// The place of the first field of a name.
+fn place_in(fields: &[Field], y: &Name) -> Option<usize>
+    ensures { result ≡ place_in fields.now y.now }
 {
-    let name = Name::new(alloc, x.as_bytes())?;
-    let args = each_erased(alloc, args)?;
-    Ok(Ty::Named(name, args))
-}
-
-/// A struct at type arguments.
-pub fn make_at(
-    alloc: Global,
-    index: &Index<'_>,
-    tvars: &[Name],
-    x: &Name,
-    args: &[Ty],
-) -> Result<Instance, Untyped>
-    ensures { Gives result (make_at index.now tvars.now x.now args.now) }
-{
-    let Some(def) = index.names().struct_named(x) else {
-        return Err(Untyped::Fault);
-    };
-    demand(serve(index, tvars, def.vars, args))?;
-    let takes = fields_at(alloc, def.vars, args, def.fields)?;
-    let gives = named_at(alloc, x, args)?;
-    Ok(Instance { takes, gives })
-}
-
-/// A constructor at the type arguments of its sum.
-pub fn con_at(
-    alloc: Global,
-    index: &Index<'_>,
-    tvars: &[Name],
-    x: &Name,
-    args: &[Ty],
-) -> Result<Instance, Untyped>
-    ensures { Gives result (con_at index.now tvars.now x.now args.now) }
-{
-    let Some(def) = index.names().con_named(x) else {
-        return Err(Untyped::Fault);
-    };
-    demand(serve(index, tvars, def.vars, args))?;
-    let takes = types_at(alloc, def.vars, args, def.args)?;
-    let gives = named_at(alloc, def.sum, args)?;
-    Ok(Instance { takes, gives })
-}
-
-/// A function at type arguments.
-pub fn call_at(
-    alloc: Global,
-    index: &Index<'_>,
-    tvars: &[Name],
-    x: &Name,
-    args: &[Ty],
-) -> Result<Instance, Untyped>
-    ensures { Gives result (call_at index.now tvars.now x.now args.now) }
-{
-    let Some(def) = index.names().fun_named(x) else {
-        return Err(Untyped::Fault);
-    };
-    demand(serve(index, tvars, def.vars, args))?;
-    let takes = fields_at(alloc, def.vars, args, def.params)?;
-    let gives = at(alloc, def.vars, args, def.result)?;
-    Ok(Instance { takes, gives })
-}
-
-/// The type arguments of the struct or sum of a name.
-fn args_of<'a>(x: &Name, a: &'a Ty) -> Option<&'a [Ty]>
-    ensures { option_map (λ args. args.now) result ≡ args_of x.now (out-Ty a.now) }
-{
-    match a {
-        Ty::Named(y, args) if y.as_bytes() == x.as_bytes() => Some(args.as_slice()),
-        _ => None,
+    for (j, field) in fields.iter().enumerate() {
+        if field.name.as_bytes() == y.as_bytes() {
+            return Some(j);
+        }
     }
+    None
 }
 
-/// The type of a field of a value.
-pub fn field_type(alloc: Global, index: &Index<'_>, y: &Name, a: &Ty) -> Result<Ty, Untyped>
-    ensures { Gives result (field_type index.now y.now a.now) }
-{
-    let Some((x, args)) = name_of(a) else {
-        return Err(Untyped::Fault);
-    };
-    let Some(def) = index.names().struct_named(x) else {
-        return Err(Untyped::Fault);
-    };
-    let Some(ty) = field_named(def.fields, y) else {
-        return Err(Untyped::Fault);
-    };
-    Ok(at(alloc, def.vars, args, ty)?)
-}
+impl<'n, 'a> Judge<'n, 'a> {
+    /// A struct at type arguments.
+    pub fn make_at(&mut self, x: &'a Name, args: &'a [Ty]) -> Result<Applied, Untyped>
+        ensures value { GivesApplied self.new.table self.old.place.defs result (make_at self.old.place.defs self.old.place.tvars x.now args.now) }
+        ensures place { self.new.place ≡ self.old.place }
+        ensures grows { Grows self.old.table self.new.table }
+    {
+        let Some(def) = self.index().names().struct_named(x) else {
+            return Err(Untyped::Fault);
+        };
+        demand(serve(self.index(), self.tvars(), def.vars, args))?;
+        let k = self.named(x, args)?;
+        Ok(Applied {
+            kind: Component::Field,
+            takes: k,
+            gives: k,
+        })
+    }
 
-/// The types of the fields of the struct of a name.
-pub fn make_parts(alloc: Global, index: &Index<'_>, x: &Name, a: &Ty) -> Result<Seq<Ty>, Untyped>
-    ensures { Gives result (make_parts index.now x.now a.now) }
-{
-    let Some(def) = index.names().struct_named(x) else {
-        return Err(Untyped::Fault);
-    };
-    let Some(args) = args_of(x, a) else {
-        return Err(Untyped::Fault);
-    };
-    Ok(fields_at(alloc, def.vars, args, def.fields)?)
-}
+    /// A constructor at the type arguments of its sum.
+    pub fn con_at(&mut self, x: &'a Name, args: &'a [Ty]) -> Result<Applied, Untyped>
+        ensures value { GivesApplied self.new.table self.old.place.defs result (con_at self.old.place.defs self.old.place.tvars x.now args.now) }
+        ensures place { self.new.place ≡ self.old.place }
+        ensures grows { Grows self.old.table self.new.table }
+    {
+        let Some(def) = self.index().names().con_named(x) else {
+            return Err(Untyped::Fault);
+        };
+        demand(serve(self.index(), self.tvars(), def.vars, args))?;
+        let takes = self.named(x, args)?;
+        let gives = self.renamed(takes, def.sum)?;
+        Ok(Applied {
+            kind: Component::Argument,
+            takes,
+            gives,
+        })
+    }
 
-/// The types of the arguments of a constructor.
-pub fn con_parts(alloc: Global, index: &Index<'_>, x: &Name, a: &Ty) -> Result<Seq<Ty>, Untyped>
-    ensures { Gives result (con_parts index.now x.now a.now) }
-{
-    let Some(def) = index.names().con_named(x) else {
-        return Err(Untyped::Fault);
-    };
-    let Some(args) = args_of(def.sum, a) else {
-        return Err(Untyped::Fault);
-    };
-    Ok(types_at(alloc, def.vars, args, def.args)?)
-}
+    /// A function at type arguments.
+    pub fn call_at(&mut self, x: &'a Name, args: &'a [Ty]) -> Result<Applied, Untyped>
+        ensures value { GivesApplied self.new.table self.old.place.defs result (call_at self.old.place.defs self.old.place.tvars x.now args.now) }
+        ensures place { self.new.place ≡ self.old.place }
+        ensures grows { Grows self.old.table self.new.table }
+    {
+        let Some(def) = self.index().names().fun_named(x) else {
+            return Err(Untyped::Fault);
+        };
+        demand(serve(self.index(), self.tvars(), def.vars, args))?;
+        let takes = self.named(x, args)?;
+        let gives = self.component(Component::Result, takes, 0)?;
+        Ok(Applied {
+            kind: Component::Parameter,
+            takes,
+            gives,
+        })
+    }
 
-/// The type of an argument of a constructor.
-pub fn part_type(alloc: Global, index: &Index<'_>, x: &Name, j: u32, a: &Ty) -> Result<Ty, Untyped>
-    ensures { Gives result (part_type index.now x.now j a.now) }
-{
-    let Some(def) = index.names().con_named(x) else {
-        return Err(Untyped::Fault);
-    };
-    let Some(args) = args_of(def.sum, a) else {
-        return Err(Untyped::Fault);
-    };
-    let Some(ty) = def.args.get(j as usize) else {
-        return Err(Untyped::Fault);
-    };
-    Ok(at(alloc, def.vars, args, ty)?)
-}
+    /// The type of a field of a value.
+    pub fn field_type(&mut self, y: &Name, k: usize) -> Result<usize, Untyped>
+        requires { IsKnown self.old.table k }
+        ensures value { (a : Ty) → IsErased self.old.table k a → GivesNumber self.new.table result (field_type self.old.place.defs y.now a) }
+        ensures place { self.new.place ≡ self.old.place }
+        ensures grows { Grows self.old.table self.new.table }
+    {
+        let Some(x) = self.name_of(k) else {
+            return Err(Untyped::Fault);
+        };
+        let Some(def) = self.index().names().struct_named(x) else {
+            return Err(Untyped::Fault);
+        };
+        let Some(j) = place_in(def.fields, y) else {
+            return Err(Untyped::Fault);
+        };
+        self.component(Component::Field, k, j)
+    }
 
-/// The type of the test whether a value is of a constructor.
-pub fn tag_type(index: &Index<'_>, x: &Name, a: &Ty) -> Result<Ty, Untyped>
-    ensures { Gives result (tag_type index.now x.now a.now) }
-{
-    let Some(def) = index.names().con_named(x) else {
-        return Err(Untyped::Fault);
-    };
-    match args_of(def.sum, a) {
-        Some(_) => Ok(Ty::Bool),
-        None => Err(Untyped::Fault),
+    /// The number at which the fields of the struct of a name are found, at the type arguments of a type.
+    pub fn make_parts(&self, x: &Name, k: usize) -> Result<usize, Untyped>
+        ensures { (a : Ty) → IsErased self.now.table k a → GivesParts self.now.table self.now.place.defs Component.Field result (make_parts self.now.place.defs x.now a) }
+    {
+        if self.index().names().struct_named(x).is_none() {
+            return Err(Untyped::Fault);
+        }
+        match self.name_of(k) {
+            Some(y) if y.as_bytes() == x.as_bytes() => Ok(k),
+            _ => Err(Untyped::Fault),
+        }
+    }
+
+    /// The number at which the arguments of a constructor are found, at the type arguments of a type.
+    pub fn con_parts(&mut self, x: &'a Name, k: usize) -> Result<usize, Untyped>
+        requires { IsKnown self.old.table k }
+        ensures value { (a : Ty) → IsErased self.old.table k a → GivesParts self.new.table self.old.place.defs Component.Argument result (con_parts self.old.place.defs x.now a) }
+        ensures place { self.new.place ≡ self.old.place }
+        ensures grows { Grows self.old.table self.new.table }
+    {
+        let Some(def) = self.index().names().con_named(x) else {
+            return Err(Untyped::Fault);
+        };
+        match self.name_of(k) {
+            Some(y) if y.as_bytes() == def.sum.as_bytes() => self.renamed(k, x),
+            _ => Err(Untyped::Fault),
+        }
+    }
+
+    /// The type of an argument of a constructor.
+    pub fn part_type(&mut self, x: &'a Name, j: u32, k: usize) -> Result<usize, Untyped>
+        requires { IsKnown self.old.table k }
+        ensures value { (a : Ty) → IsErased self.old.table k a → GivesNumber self.new.table result (part_type self.old.place.defs x.now j a) }
+        ensures place { self.new.place ≡ self.old.place }
+        ensures grows { Grows self.old.table self.new.table }
+    {
+        let k = self.con_parts(x, k)?;
+        self.component(Component::Argument, k, j as usize)
+    }
+
+    /// The type of the test whether a value is of a constructor.
+    pub fn tag_type(&mut self, x: &Name, k: usize) -> Result<usize, Untyped>
+        ensures value { (a : Ty) → IsErased self.old.table k a → GivesNumber self.new.table result (tag_type self.old.place.defs x.now a) }
+        ensures place { self.new.place ≡ self.old.place }
+        ensures grows { Grows self.old.table self.new.table }
+    {
+        let Some(def) = self.index().names().con_named(x) else {
+            return Err(Untyped::Fault);
+        };
+        match self.name_of(k) {
+            Some(y) if y.as_bytes() == def.sum.as_bytes() => self.bool(),
+            _ => Err(Untyped::Fault),
+        }
     }
 }

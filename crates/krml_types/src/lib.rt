@@ -1,20 +1,21 @@
 //! The types of a source file: which definitions are well typed.
 #![tactic(auto)]
 
+mod applied;
 mod check;
+mod component;
 mod definition;
 mod expression;
 mod formed;
 mod holds;
 mod index;
 mod instance;
+mod judge;
 mod names;
 mod part;
 mod pattern;
 mod refusal;
-mod scope;
 mod typed_file;
-mod types;
 mod untyped;
 
 pub use check::check_types;

@@ -1,65 +1,91 @@
-ghost use Rattle.std.specs.Prelude.{map};
-ghost use Rattle.krml_types.specs.Gives.{Leads};
+ghost use Rattle.std.specs.Prelude.{◌≡◌, List, ◌∷◌, OnOk, Some, map};
+ghost use Rattle.krml_syntax.specs.declared.tree.Ty.{Ty};
+ghost use Rattle.krml_syntax.specs.declared.tree.Ty.TheVariants.{Bool};
+ghost use Rattle.krml_ast.specs.IsType.{int_ty};
+ghost use Rattle.krml_intern.specs.Table.{Grows};
+ghost use Rattle.krml_intern.specs.Unlabelled.{IsErased};
+ghost use Rattle.krml_types.specs.Gives.{Gives};
+ghost use Rattle.krml_types.specs.Judging.{IsKnown, IsAt, AreParts, Binds};
+ghost use Rattle.krml_types.specs.Parts.{demand};
 ghost use Rattle.krml_types.specs.Patterns.{binds, parts_bind};
+ghost use Rattle.krml_types.specs.Types.{same_ty};
 
-use crate::index::Index;
-use crate::instance::{con_parts, make_parts};
-use crate::types::{int_ty, same_ty};
+use crate::component::Component;
+use crate::judge::Judge;
 use crate::untyped::{Untyped, demand};
-use krml_ast::{Vars, clone_ty};
-use krml_syntax::{Pat, Ty};
+use krml_syntax::{IntTy, Pat};
 use krml_trace::Name;
-use std::alloc::Global;
 
-/// Adds the variables that a pattern binds at a place of a type.
-#[cycle(pattern)]
-pub fn bind(
-    alloc: Global,
-    index: &Index<'_>,
-    vars: &mut Vars,
-    pat: &Pat,
-    a: &Ty,
-) -> Result<(), Untyped>
-    ensures { Leads result (binds index.now pat.now a.now vars.old) vars.new }
-{
-    match pat {
-        Pat::Any => Ok(()),
-        Pat::Bind(x) => {
-            let name = Name::new(alloc, x.as_bytes())?;
-            vars.push(name, clone_ty(alloc, a)?)?;
-            Ok(())
-        }
-        Pat::Bool(_) => demand(same_ty(a, &Ty::Bool)),
-        Pat::Num(i, n) => demand(same_ty(a, &int_ty(*i)) && i.width.fits(*n)),
-        Pat::Con(x, pats) => {
-            let types = con_parts(alloc, index, x, a)?;
-            bind_parts(alloc, index, vars, pats.as_slice(), types.as_slice())
-        }
-        Pat::Make(x, pats) => {
-            let types = make_parts(alloc, index, x, a)?;
-            bind_parts(alloc, index, vars, pats.as_slice(), types.as_slice())
+impl<'n, 'a> Judge<'n, 'a> {
+    /// The type is `bool`.
+    pub fn is_bool(&mut self, k: usize) -> Result<(), Untyped>
+        ensures value { (a : Ty) → IsErased self.old.table k a → Gives result (demand (same_ty a Bool)) }
+        ensures place { self.new.place ≡ self.old.place }
+        ensures grows { Grows self.old.table self.new.table }
+    {
+        let j = self.bool()?;
+        demand(self.same(k, j))
+    }
+
+    /// The type is the integer type, without its label.
+    pub fn is_int(&mut self, k: usize, i: IntTy) -> Result<(), Untyped>
+        ensures value { (a : Ty) → IsErased self.old.table k a → Gives result (demand (same_ty a (int_ty i))) }
+        ensures place { self.new.place ≡ self.old.place }
+        ensures grows { Grows self.old.table self.new.table }
+    {
+        let j = self.public(i)?;
+        demand(self.same(k, j))
+    }
+
+    /// Adds a variable of a pattern. An error is want of memory.
+    fn bound(&mut self, x: &'a Name, k: usize) -> Result<(), Untyped>
+        requires { IsKnown self.old.table k }
+        ensures value { (a : Ty) → IsErased self.old.table k a → Binds result (Some ((x.now, a) ∷ self.old.place.scope.vars)) self.old.place self.new.place }
+        ensures table { self.new.table ≡ self.old.table }
+    {
+        match self.push(x, k) {
+            Ok(()) => Ok(()),
+            Err(_) => Err(Untyped::NoMemory),
         }
     }
-}
 
-/// The same of patterns, one for each type.
-#[cycle(pattern)]
-fn bind_parts(
-    alloc: Global,
-    index: &Index<'_>,
-    vars: &mut Vars,
-    pats: &[Pat],
-    types: &[Ty],
-) -> Result<(), Untyped>
-    ensures { Leads result (parts_bind (map (binds index.now) pats.now) types.now vars.old) vars.new }
-{
-    let mut left = types;
-    for pat in pats {
-        let [a, rest @ ..] = left else {
-            return Err(Untyped::Fault);
-        };
-        bind(alloc, index, vars, pat, a)?;
-        left = rest;
+    /// Adds the variables that a pattern binds at a place of a type.
+    #[cycle(pattern)]
+    pub fn bind(&mut self, pat: &'a Pat, k: usize) -> Result<(), Untyped>
+        requires { IsKnown self.old.table k }
+        ensures value { (a : Ty) → IsErased self.old.table k a → Binds result (binds self.old.place.defs pat.now a self.old.place.scope.vars) self.old.place self.new.place }
+        ensures grows { OnOk result (Grows self.old.table self.new.table) }
+    {
+        match pat {
+            Pat::Any => Ok(()),
+            Pat::Bind(x) => self.bound(x, k),
+            Pat::Bool(_) => self.is_bool(k),
+            Pat::Num(i, n) => {
+                demand(i.width.fits(*n))?;
+                self.is_int(k, *i)
+            }
+            Pat::Con(x, pats) => {
+                let k = self.con_parts(x, k)?;
+                self.bind_parts(pats.as_slice(), Component::Argument, k)
+            }
+            Pat::Make(x, pats) => {
+                let k = self.make_parts(x, k)?;
+                self.bind_parts(pats.as_slice(), Component::Field, k)
+            }
+        }
     }
-    demand(left.is_empty())
+
+    /// The same of patterns, one for each component.
+    #[cycle(pattern)]
+    fn bind_parts(&mut self, pats: &'a [Pat], kind: Component, k: usize) -> Result<(), Untyped>
+        requires { IsAt self.old.table k }
+        ensures value { (types : List Ty) → AreParts self.old.table self.old.place.defs kind k types → Binds result (parts_bind (map (binds self.old.place.defs) pats.now) types self.old.place.scope.vars) self.old.place self.new.place }
+        ensures grows { OnOk result (Grows self.old.table self.new.table) }
+    {
+        for (j, pat) in pats.iter().enumerate() {
+            let part = self.component(kind, k, j)?;
+            self.bind(pat, part)?;
+        }
+        demand(self.ends(kind, k, pats.len()))
+    }
 }

@@ -1,0 +1,18 @@
+use Rattle.std.proofs.Common.{ap, ◌∙◌}
+use Rattle.std.proofs.lemmas.Result.{IfOk-weaker}
+use Rattle.krml_ast.specs.IsType.{int_ty}
+use Rattle.krml_intern.proofs.Erasing.{int_plain}
+use Rattle.krml_types.specs.Judging.{Around}
+use Rattle.krml_types.proofs.Judged.{judge_still, place_still}
+use Rattle.krml_types.proofs.judge.Judge.public.Goals as goal
+
+pub invariant_of-self : goal.invariant_of-self
+invariant_of-self c = judge_still c.self.inside.index.now c.self.inside.types c.public-k.new.self c.self.inside.components c.self.inside.scope c.public-k.ensures.grows c.self.invariant
+
+pub returns-clause-value : goal.returns-clause-value
+returns-clause-value c = c.given.ensures c.public-k.new.self (int_ty c.args.i) (IfOk-weaker c.public-k.result _ _ (λ n m. record { means = m; plain = int_plain c.args.i }) c.public-k.ensures.value)
+
+pub returns-clause-place : goal.returns-clause-place
+returns-clause-place c =
+    place_still c.self.inside.index.now c.self.inside.tvars.now c.self.inside.types c.public-k.new.self c.self.inside.components c.self.inside.scope c.self.inside.frame c.public-k.ensures.grows c.self.invariant
+    ∙ ap (λ (s : Around). s.place) c.self.view_is

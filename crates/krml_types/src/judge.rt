@@ -1,0 +1,364 @@
+ghost use Rattle.std.specs.Prelude.{◌≡◌, ℕ, List, [], ◌∷◌, ◌-◌, OnOk, length, take, map, IfOk, Some, None, option_map};
+ghost use Rattle.std.specs.Bool.{Decides};
+ghost use Rattle.std.specs.Option.{option_copied};
+ghost use Rattle.krml_syntax.specs.declared.tree.Ty.{Ty, out-Ty};
+ghost use Rattle.krml_syntax.specs.declared.tree.Ty.TheVariants as t;
+ghost use Rattle.krml_ast.specs.IsType.{int_ty, is_unit_in, erased};
+ghost use Rattle.krml_ast.specs.TypeParts.{element_of};
+ghost use Rattle.krml_ast.specs.Typing.{look, with_vars};
+ghost use Rattle.krml_ast.specs.Vars.{are_distinct};
+ghost use Rattle.krml_intern.specs.Table.{Table, Means, Grows, head_of};
+ghost use Rattle.krml_intern.specs.Unlabelled.{IsErased};
+ghost use Rattle.krml_types.specs.Instances.{written, part_at};
+ghost use Rattle.krml_types.specs.Judging.{GivesNumber, IsKnown, IsAt, in_scope, nothing_yet, is_none, code_of};
+ghost use Rattle.krml_types.specs.Scopes.{cut_scope, with_frame, is_framed, slot_type};
+ghost use Rattle.krml_types.specs.Types.{is_flat};
+
+use crate::component::Component;
+use crate::index::Index;
+use crate::instance::written;
+use crate::untyped::{Untyped, demand};
+use krml_intern::{Scope, TypeTable};
+use krml_syntax::{IntTy, Slot, Ty};
+use krml_trace::{Name, NoMemory};
+use std::alloc::Global;
+use std::collections::BTreeMap;
+use std::marker::Model;
+use std::mem;
+
+/// A type that a definition writes, at the type arguments of the struct, constructor or function of a number.
+type Key = (u8, (usize, usize));
+
+/// Where expressions are judged: the types so far by number, with those of the components of definitions that were asked for;
+/// the definitions of the file, the type variables of the definition at hand, the variables in scope with the numbers of their
+/// types, and the slots of the frame around.
+#[derive(Drop)]
+pub struct Judge<'n, 'a> {
+    alloc: Global,
+    index: &'n Index<'a>,
+    types: TypeTable<'a>,
+    components: BTreeMap<Key, usize>,
+    tvars: &'a [Name],
+    scope: Scope<'a>,
+    frame: Option<&'a [Slot]>,
+}
+
+impl<'n, 'a> Model for Judge<'n, 'a> {
+    ghost use Rattle.std.specs.Coded.{codes};
+    ghost use Rattle.std.specs.Option.{option_copied};
+    ghost use Rattle.krml_syntax.specs.contracts.tree.Ty as ty;
+    ghost use Rattle.krml_syntax.specs.contracts.tree.Expr as expr;
+    ghost use Rattle.krml_types.specs.Judging.{Around, typed, IsJudge};
+
+    ghost Value = { Around };
+
+    ghost coded = { Prim.hlevel (codes, ty.the_row.coded, expr.the_row.coded) };
+
+    ghost view = { λ s. record {
+      table = s.types;
+      place = record { defs = s.index.now; tvars = s.tvars.now; scope = record { vars = typed s.types s.scope; frame = option_copied s.frame } };
+    } };
+
+    ghost invariant = { λ s. IsJudge s.index.now s.types s.components s.scope };
+}
+
+/// What tells kinds of components apart.
+fn code(kind: Component) -> u8
+    ensures { result ≡ code_of kind }
+{
+    match kind {
+        Component::Field => 0,
+        Component::Argument => 1,
+        Component::Parameter => 2,
+        Component::Result => 3,
+    }
+}
+
+/// A number, where memory was there.
+fn given(k: Result<usize, NoMemory>) -> Result<usize, Untyped>
+    ensures { (t : Table) (a : Ty) → IfOk k (λ n. IsErased t n a) → GivesNumber t result (Some a) }
+{
+    Ok(k?)
+}
+
+impl<'n, 'a> Judge<'n, 'a> {
+    /// No types, no type variables, no variables in scope.
+    pub fn new(alloc: Global, index: &'n Index<'a>) -> Judge<'n, 'a>
+        ensures { result ≡ nothing_yet index.now }
+    {
+        Judge {
+            alloc,
+            index,
+            types: TypeTable::new(alloc),
+            components: BTreeMap::new(alloc),
+            tvars: &[],
+            scope: Scope::new(alloc),
+            frame: None,
+        }
+    }
+
+    /// Goes on to a definition with these type variables, with no variables in scope.
+    pub fn begin(&mut self, tvars: &'a [Name])
+        ensures place { self.new.place ≡ record { defs = self.old.place.defs; tvars = tvars.now; scope = record { vars = []; frame = None } } }
+        ensures table { self.new.table ≡ self.old.table }
+    {
+        self.tvars = tvars;
+        self.scope.cut(0);
+        self.frame = None;
+    }
+
+    /// The definitions of the file.
+    pub fn index(&self) -> &'n Index<'a>
+        ensures { result.now ≡ self.now.place.defs }
+    {
+        self.index
+    }
+
+    /// The type variables of the definition at hand.
+    pub fn tvars(&self) -> &'a [Name]
+        ensures { result.now ≡ self.now.place.tvars }
+    {
+        self.tvars
+    }
+
+    // ---- the scope
+
+    /// How many variables are in scope.
+    pub fn len(&self) -> usize
+        ensures { result ≡ length self.now.place.scope.vars }
+    {
+        self.scope.len()
+    }
+
+    /// The type of the newest variable of a name.
+    pub fn look(&self, x: &Name) -> Result<usize, Untyped>
+        ensures { GivesNumber self.now.table result (look self.now.place.scope.vars x.now) }
+    {
+        self.scope.look(x.as_bytes()).ok_or(Untyped::Fault)
+    }
+
+    /// One more variable, the newest, with the number of its type.
+    pub fn push(&mut self, x: &'a Name, k: usize) -> Result<(), NoMemory>
+        requires { IsKnown self.old.table k }
+        ensures value { OnOk result ((a : Ty) → Means self.old.table k a → self.new.place ≡ in_scope self.old.place (with_vars ((x.now, a) ∷ []) self.old.place.scope)) }
+        ensures table { self.new.table ≡ self.old.table }
+    {
+        self.scope.push(x.as_bytes(), k)?;
+        Ok(())
+    }
+
+    /// Leaves the oldest variables, so many.
+    pub fn cut(&mut self, len: usize)
+        ensures place { self.new.place ≡ in_scope self.old.place (cut_scope len self.old.place.scope) }
+        ensures table { self.new.table ≡ self.old.table }
+    {
+        self.scope.cut(len);
+    }
+
+    /// Whether no two variables have one name among those that are newer than the oldest ones, so many.
+    pub fn are_distinct(&self, len: usize) -> bool
+        ensures { result ≡ are_distinct (take (length self.now.place.scope.vars - len) self.now.place.scope.vars) }
+    {
+        self.scope.are_distinct(len)
+    }
+
+    /// Goes into a frame with these slots, or out of all frames. Gives the slots of the frame before.
+    pub fn enter(&mut self, frame: Option<&'a [Slot]>) -> Option<&'a [Slot]>
+        ensures before { option_copied result ≡ self.old.place.scope.frame }
+        ensures place { self.new.place ≡ in_scope self.old.place (with_frame (option_copied frame.entry) self.old.place.scope) }
+        ensures table { self.new.table ≡ self.old.table }
+    {
+        mem::replace(&mut self.frame, frame)
+    }
+
+    pub fn is_framed(&self) -> bool
+        ensures { result ≡ is_framed self.now.place.scope.frame }
+    {
+        self.frame.is_some()
+    }
+
+    /// The type of the elements of a slot.
+    pub fn slot_type(&mut self, k: u32) -> Result<usize, Untyped>
+        ensures value { GivesNumber self.new.table result (slot_type self.old.place.scope.frame k) }
+        ensures place { self.new.place ≡ self.old.place }
+        ensures grows { Grows self.old.table self.new.table }
+    {
+        let Some(slots) = self.frame else {
+            return Err(Untyped::Fault);
+        };
+        let Some(slot) = slots.get(k as usize) else {
+            return Err(Untyped::Fault);
+        };
+        self.erased(&slot.ty)
+    }
+
+    // ---- types
+
+    /// The type `bool`.
+    pub fn bool(&mut self) -> Result<usize, Untyped>
+        ensures value { GivesNumber self.new.table result (Some t.Bool) }
+        ensures place { self.new.place ≡ self.old.place }
+        ensures grows { Grows self.old.table self.new.table }
+    {
+        let k = self.types.bool();
+        given(k)
+    }
+
+    /// The type `unit`.
+    pub fn unit(&mut self) -> Result<usize, Untyped>
+        ensures value { GivesNumber self.new.table result (Some t.Unit) }
+        ensures place { self.new.place ≡ self.old.place }
+        ensures grows { Grows self.old.table self.new.table }
+    {
+        let k = self.types.unit();
+        given(k)
+    }
+
+    /// The public integer type of a width.
+    pub fn public(&mut self, i: IntTy) -> Result<usize, Untyped>
+        ensures value { GivesNumber self.new.table result (Some (int_ty i)) }
+        ensures place { self.new.place ≡ self.old.place }
+        ensures grows { Grows self.old.table self.new.table }
+    {
+        let k = self.types.public(i);
+        given(k)
+    }
+
+    /// The buffers of a type.
+    pub fn buf(&mut self, k: usize) -> Result<usize, Untyped>
+        requires { IsKnown self.old.table k }
+        ensures value { (a : Ty) → IsErased self.old.table k a → GivesNumber self.new.table result (Some (t.Buf a)) }
+        ensures place { self.new.place ≡ self.old.place }
+        ensures grows { Grows self.old.table self.new.table }
+    {
+        let k = self.types.buf(k);
+        given(k)
+    }
+
+    /// A type with its labels erased.
+    pub fn erased(&mut self, a: &'a Ty) -> Result<usize, Untyped>
+        ensures value { GivesNumber self.new.table result (Some (erased a.now)) }
+        ensures place { self.new.place ≡ self.old.place }
+        ensures grows { Grows self.old.table self.new.table }
+    {
+        let k = self.types.erased(a);
+        given(k)
+    }
+
+    /// The struct or sum of a name at types with their labels erased.
+    pub fn named(&mut self, x: &'a Name, types: &'a [Ty]) -> Result<usize, Untyped>
+        ensures value { GivesNumber self.new.table result (Some (t.Named x.now (map erased types.now))) }
+        ensures place { self.new.place ≡ self.old.place }
+        ensures grows { Grows self.old.table self.new.table }
+    {
+        let k = self.types.named(x, types);
+        given(k)
+    }
+
+    /// A struct or a sum under another name, at the same type arguments.
+    pub fn renamed(&mut self, k: usize, x: &'a Name) -> Result<usize, Untyped>
+        requires { IsAt self.old.table k }
+        ensures value { (y : List ℕ) (args : List Ty) → IsErased self.old.table k (t.Named y args) → GivesNumber self.new.table result (Some (t.Named x.now args)) }
+        ensures place { self.new.place ≡ self.old.place }
+        ensures grows { Grows self.old.table self.new.table }
+    {
+        let k = self.types.renamed(k, x);
+        given(k)
+    }
+
+    /// Whether two numbers are of one type.
+    pub fn same(&self, j: usize, k: usize) -> bool
+        ensures { (a b : Ty) → IsErased self.now.table j a → IsErased self.now.table k b → Decides result (a ≡ b) }
+    {
+        self.types.same(j, k)
+    }
+
+    /// Whether a type is `unit`.
+    pub fn is_unit(&self, k: usize) -> bool
+        ensures { (a : Ty) → IsErased self.now.table k a → result ≡ is_unit_in (out-Ty a) }
+    {
+        self.types.is_unit(k)
+    }
+
+    /// Whether a type is one of values and holds no buffer.
+    pub fn is_flat(&self, k: usize) -> bool
+        ensures { (a : Ty) → IsErased self.now.table k a → result ≡ is_flat self.now.place.defs a }
+    {
+        if self.types.is_unit(k) || self.types.element(k).is_some() {
+            return false;
+        }
+        match self.types.name_of(k) {
+            Some(x) => !self.index.is_holder(x),
+            None => true,
+        }
+    }
+
+    /// The type of the elements of a buffer.
+    pub fn element(&self, k: usize) -> Result<usize, Untyped>
+        ensures { (a : Ty) → IsErased self.now.table k a → GivesNumber self.now.table result (element_of (out-Ty a)) }
+    {
+        self.types.element(k).ok_or(Untyped::Fault)
+    }
+
+    /// The name of a struct or a sum.
+    pub fn name_of(&self, k: usize) -> Option<&'a Name>
+        ensures { (a : Ty) → IsErased self.now.table k a → option_map (λ x. x.now) result ≡ head_of (out-Ty a) }
+    {
+        self.types.name_of(k)
+    }
+
+    // ---- components of definitions
+
+    /// The type variables of a definition, and a type that it writes, by its place among those of its kind.
+    fn written(&self, kind: Component, x: &Name, j: usize) -> Option<(&'a [Name], &'a Ty)>
+        ensures { option_map (λ w. (w.0.now, w.1.now)) result ≡ written self.now.place.defs kind x.now j }
+    {
+        written(self.index, kind, x, j)
+    }
+
+    /// Whether the struct, constructor or function of a name has so many components of a kind at most.
+    pub fn ends(&self, kind: Component, k: usize, j: usize) -> bool
+        ensures { (x : List ℕ) (args : List Ty) → IsErased self.now.table k (t.Named x args) → result ≡ is_none (part_at self.now.place.defs kind x args j) }
+    {
+        match self.types.name_of(k) {
+            Some(x) => self.written(kind, x, j).is_none(),
+            None => true,
+        }
+    }
+
+    /// A component of the struct, constructor or function of a name at type arguments. It is computed once.
+    pub fn component(&mut self, kind: Component, k: usize, j: usize) -> Result<usize, Untyped>
+        requires { IsAt self.old.table k }
+        ensures value { (x : List ℕ) (args : List Ty) → IsErased self.old.table k (t.Named x args) → GivesNumber self.new.table result (part_at self.old.place.defs kind x args j) }
+        ensures place { self.new.place ≡ self.old.place }
+        ensures grows { Grows self.old.table self.new.table }
+    {
+        let key = (code(kind), (k, j));
+        if let Some(n) = self.components.get(&key).copied() {
+            return Ok(n);
+        }
+        let n = self.computed(kind, k, j)?;
+        match self.components.insert(key, n) {
+            Ok(_) => Ok(n),
+            Err(_) => Err(Untyped::NoMemory),
+        }
+    }
+
+    /// The same, computed.
+    fn computed(&mut self, kind: Component, k: usize, j: usize) -> Result<usize, Untyped>
+        requires { IsAt self.old.table k }
+        ensures value { (x : List ℕ) (args : List Ty) → IsErased self.old.table k (t.Named x args) → GivesNumber self.new.table result (part_at self.old.place.defs kind x args j) }
+        ensures place { self.new.place ≡ self.old.place }
+        ensures grows { Grows self.old.table self.new.table }
+    {
+        let Some(x) = self.types.name_of(k) else {
+            return Err(Untyped::Fault);
+        };
+        let Some((vars, ty)) = self.written(kind, x, j) else {
+            return Err(Untyped::Fault);
+        };
+        let args = self.types.arguments(k)?;
+        let k = self.types.erased_at(vars, args.as_slice(), ty);
+        given(k)
+    }
+}
