@@ -18,11 +18,11 @@ use Rattle.krml_syntax.specs.declared.tree.Expr.TheFolds.{fold_out-Expr, fold_ou
 use Rattle.krml_syntax.specs.declared.tree.Expr.TheVariants as e
 use Rattle.krml_syntax.specs.declared.tree.Def.{Def}
 use Rattle.krml_syntax.specs.Read.{◌>>=◌}
-use Rattle.krml_ast.specs.IsType.{erased}
-use Rattle.krml_ast.specs.TypeParts.{element_of}
+use Rattle.krml_syntax.specs.Types.{erased, element_of}
 use Rattle.krml_ast.specs.Typing.{Vars, look, Scope, with_vars, in_frame, Matches, MatchAll, HasType, ArmsHaveType, ItemsLead, CasesHaveType}
 use Rattle.krml_ast.specs.Labelled.{hidden, parts_bind, binds, fill_type, first_arm, first_case, items_bind, field_type, part_type, labelled_in, arm_labelled, item_binds, case_labelled, vars_of_fields, labelled_type, erased_vars, field_scope, IsTypedIn, IsLabelled}
-use Rattle.krml_ast.proofs.LabelledTypes.{erased_bool, erased_unit, erased_int, erased_buf, erased_named, element_is, field_is, part_is, con_parts_are, make_parts_are}
+use Rattle.krml_syntax.proofs.Types.{erased_bool, erased_unit, erased_int, erased_buf, erased_named}
+use Rattle.krml_ast.proofs.LabelledTypes.{element_is, field_is, part_is, con_parts_are, make_parts_are}
 
 -- something has a labelled type, which is this one when its labels are erased
 abbrev pub Labels : Option Ty → Ty → Type 0

@@ -1,124 +1,27 @@
--- Labelled types and erased ones: labels may be erased before type arguments are put in, and what erased types have the labelled ones have.
-use Rattle.std.proofs.Common.{◌≡◌, ℕ, Bool, true, false, if◌then◌else◌, List, [], ◌∷◌, map, slice_get, Some, option_map, refl, sym, ap, ◌∙◌, subst}
-use Rattle.std.specs.Str.{bytes_eq}
-use Rattle.krml_syntax.specs.declared.tree.IntTy.{IntTy}
-use Rattle.krml_syntax.specs.declared.tree.Ty.{Ty, out-Ty, roll-Ty, map-Ty}
+-- Labelled types and erased ones: what erased types have the labelled ones have.
+use Rattle.std.proofs.Common.{◌≡◌, ℕ, List, [], ◌∷◌, map, slice_get, Some, option_map, refl, sym, ap, ◌∙◌}
+use Rattle.krml_syntax.specs.declared.tree.Ty.{Ty, out-Ty, map-Ty}
 use Rattle.krml_syntax.specs.declared.tree.Ty.TheOpen.{Ty-F}
-use Rattle.krml_syntax.specs.declared.tree.Ty.TheFolds.{fold_out-Ty, ind-Ty}
+use Rattle.krml_syntax.specs.declared.tree.Ty.TheFolds.{fold_out-Ty}
 use Rattle.krml_syntax.specs.declared.tree.Ty.TheVariants as t
 use Rattle.krml_syntax.specs.declared.tree.Field.{Field}
 use Rattle.krml_syntax.specs.declared.tree.Def.{Def}
+use Rattle.krml_syntax.specs.Types.{public, level_erased, erased, type_at, element_of}
+use Rattle.krml_syntax.proofs.Types.{at_erased}
 use Rattle.krml_ast.specs.Names.{Struct, Constructor, type_named, con_named, field_named}
-use Rattle.krml_ast.specs.IsType.{public, level_erased, erased, argument_of, level_at, type_at}
-use Rattle.krml_ast.specs.TypeParts.{element_of}
 use Rattle.krml_ast.specs.Typing.{at, fields_at}
 use Rattle.krml_ast.specs.Labelled.{con_parts, make_parts, field_type, part_type}
 
--- ---- labels erased
-
-pub erased_bool : erased t.Bool ≡ t.Bool
-erased_bool = rw (fold_out-Ty, t.outs-Bool) refl
-
-pub erased_unit : erased t.Unit ≡ t.Unit
-erased_unit = rw (fold_out-Ty, t.outs-Unit) refl
-
-pub erased_int : (i : IntTy) → erased (t.Int i) ≡ t.Int (public i)
-erased_int i = rw (fold_out-Ty, t.outs-Int) refl
-
-pub erased_buf : (a : Ty) → erased (t.Buf a) ≡ t.Buf (erased a)
-erased_buf a = rw (fold_out-Ty Ty level_erased (t.Buf a), t.outs-Buf) refl
-
-pub erased_var : (x : List ℕ) → erased (t.Var x) ≡ t.Var x
-erased_var x = rw (fold_out-Ty, t.outs-Var) refl
-
-pub erased_named : (x : List ℕ) (args : List Ty) → erased (t.Named x args) ≡ t.Named x (map erased args)
-erased_named x args = rw (fold_out-Ty Ty level_erased (t.Named x args), t.outs-Named) refl
-
--- labels that are erased stay erased
-abbrev Twice : Ty → Type 0
-Twice a = erased (erased a) ≡ erased a
-
-module _ (X : Type 0) (v : X → Ty) (h : (x : X) → Twice (v x)) where
-  all_twice : (xs : List X) → map erased (map erased (map v xs)) ≡ map erased (map v xs)
-  all_twice [] = refl
-  all_twice (x ∷ xs) = rw (h x, all_twice xs) refl
-
-  step_twice : (y : Ty-F X) → Twice (roll-Ty (map-Ty X Ty v y))
-  step_twice Ty-F.Bool = rw t.rolls-Bool (rw (erased_bool, erased_bool) refl)
-  step_twice Ty-F.Unit = rw t.rolls-Unit (rw (erased_unit, erased_unit) refl)
-  step_twice (Ty-F.Int i) = rw (t.rolls-Int i) (rw (erased_int i, erased_int (public i)) refl)
-  step_twice (Ty-F.Buf x) = rw (t.rolls-Buf (v x)) (rw (erased_buf (v x), erased_buf (erased (v x)), h x) refl)
-  step_twice (Ty-F.Var x) = rw (t.rolls-Var x) (rw (erased_var x, erased_var x) refl)
-  step_twice (Ty-F.Named x xs) = rw (t.rolls-Named x (map v xs)) (rw (erased_named x (map v xs), erased_named x (map erased (map v xs)), all_twice xs) refl)
-
-erased_twice : (a : Ty) → Twice a
-erased_twice = ind-Ty Twice (λ x y eq. subst (λ z. Twice (roll-Ty z)) eq (step_twice _ (λ p. p.0) (λ p. p.1) y))
-
--- ---- type arguments
-
-module _ (vars : List (List ℕ)) where
-  at_bool : (args : List Ty) → type_at vars args t.Bool ≡ t.Bool
-  at_bool args = rw (fold_out-Ty, t.outs-Bool) refl
-
-  at_unit : (args : List Ty) → type_at vars args t.Unit ≡ t.Unit
-  at_unit args = rw (fold_out-Ty, t.outs-Unit) refl
-
-  at_int : (args : List Ty) (i : IntTy) → type_at vars args (t.Int i) ≡ t.Int i
-  at_int args i = rw (fold_out-Ty, t.outs-Int) refl
-
-  at_buf : (args : List Ty) (a : Ty) → type_at vars args (t.Buf a) ≡ t.Buf (type_at vars args a)
-  at_buf args a = rw (fold_out-Ty Ty (level_at vars args) (t.Buf a), t.outs-Buf) refl
-
-  at_var : (args : List Ty) (x : List ℕ) → type_at vars args (t.Var x) ≡ argument_of vars args x
-  at_var args x = rw (fold_out-Ty, t.outs-Var) refl
-
-  at_named : (args : List Ty) (x : List ℕ) (types : List Ty) → type_at vars args (t.Named x types) ≡ t.Named x (map (type_at vars args) types)
-  at_named args x types = rw (fold_out-Ty Ty (level_at vars args) (t.Named x types), t.outs-Named) refl
-
-argument_erased : (vars : List (List ℕ)) (args : List Ty) (x : List ℕ) → erased (argument_of vars args x) ≡ erased (argument_of vars (map erased args) x)
-argument_erased [] args x = refl
-argument_erased (v ∷ vars) [] x = refl
-argument_erased (v ∷ vars) (a ∷ args) x = go (bytes_eq v x) (argument_erased vars args x)
-  where
-    go : (b : Bool) → erased (argument_of vars args x) ≡ erased (argument_of vars (map erased args) x)
-        → erased (if b then a else argument_of vars args x) ≡ erased (if b then erased a else argument_of vars (map erased args) x)
-    go true later = sym (erased_twice a)
-    go false later = later
+-- ---- parts of definitions at labelled type arguments
 
 module _ (vars : List (List ℕ)) (args : List Ty) where
-  abbrev Same : Ty → Type 0
-  Same a = erased (type_at vars args a) ≡ at vars (map erased args) a
-
-  module _ (X : Type 0) (v : X → Ty) (h : (x : X) → Same (v x)) where
-    all_same : (xs : List X) → map erased (map (type_at vars args) (map v xs)) ≡ map erased (map (type_at vars (map erased args)) (map v xs))
-    all_same [] = refl
-    all_same (x ∷ xs) = rw (h x, all_same xs) refl
-
-    step_same : (y : Ty-F X) → Same (roll-Ty (map-Ty X Ty v y))
-    step_same Ty-F.Bool = rw t.rolls-Bool (rw (at_bool vars args, at_bool vars (map erased args)) refl)
-    step_same Ty-F.Unit = rw t.rolls-Unit (rw (at_unit vars args, at_unit vars (map erased args)) refl)
-    step_same (Ty-F.Int i) = rw (t.rolls-Int i) (rw (at_int vars args i, at_int vars (map erased args) i) refl)
-    step_same (Ty-F.Buf x) = rw (t.rolls-Buf (v x)) (rw (at_buf vars args (v x), at_buf vars (map erased args) (v x), erased_buf (type_at vars args (v x)), erased_buf (type_at vars (map erased args) (v x)), h x) refl)
-    step_same (Ty-F.Var x) = rw (t.rolls-Var x) (rw (at_var vars args x, at_var vars (map erased args) x) (argument_erased vars args x))
-    step_same (Ty-F.Named x xs) = rw (t.rolls-Named x (map v xs)) (rw (
-      at_named vars args x (map v xs),
-      at_named vars (map erased args) x (map v xs),
-      erased_named x (map (type_at vars args) (map v xs)),
-      erased_named x (map (type_at vars (map erased args)) (map v xs)),
-      all_same xs,
-    ) refl)
-
-  -- labels of type arguments may be erased before
-  pub at_erased : (a : Ty) → Same a
-  at_erased = ind-Ty Same (λ x y eq. subst (λ z. Same (roll-Ty z)) eq (step_same _ (λ p. p.0) (λ p. p.1) y))
-
   pub types_erased : (types : List Ty) → map erased (map (type_at vars args) types) ≡ map (at vars (map erased args)) types
   types_erased [] = refl
-  types_erased (a ∷ types) = rw (at_erased a, types_erased types) refl
+  types_erased (a ∷ types) = rw (at_erased vars args a, types_erased types) refl
 
   pub fields_erased : (fields : List Field) → map erased (map (λ f. type_at vars args f.ty) fields) ≡ fields_at vars (map erased args) fields
   fields_erased [] = refl
-  fields_erased (f ∷ fields) = rw (at_erased f.ty, fields_erased fields) refl
+  fields_erased (f ∷ fields) = rw (at_erased vars args f.ty, fields_erased fields) refl
 
 -- ---- what the labelled type has
 

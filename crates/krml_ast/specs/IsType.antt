@@ -1,65 +1,13 @@
 -- Types: which are well formed in a file, and which hold buffers.
-use Rattle.std.specs.Prelude.{◌≡◌, ℕ, Bool, true, false, if◌then◌else◌, List, [], ◌∷◌, length, Some}
+use Rattle.std.specs.Prelude.{◌≡◌, ℕ, false, List, [], ◌∷◌, length, Some}
 use Rattle.std.specs.List.{Contains}
-use Rattle.std.specs.Str.{bytes_eq}
-use Rattle.krml_trace.specs.declared.width.Width.TheVariants.{W32}
 use Rattle.krml_syntax.specs.declared.tree.IntTy.{IntTy}
 use Rattle.krml_syntax.specs.declared.tree.Ty.{Ty, out-Ty}
 use Rattle.krml_syntax.specs.declared.tree.Ty.TheVariants as t
-use Rattle.krml_syntax.specs.declared.tree.Ty.TheOpen.{Ty-F}
-use Rattle.krml_syntax.specs.declared.tree.Ty.TheFolds.{fold-Ty}
 use Rattle.krml_syntax.specs.declared.tree.Field.{Field}
 use Rattle.krml_syntax.specs.declared.tree.Def.{Def}
+use Rattle.krml_syntax.specs.Types.{is_unit_in}
 use Rattle.krml_ast.specs.Names.{Composite, Struct, type_named, vars_of}
-
--- ---- labels erased
-
-abbrev pub public : IntTy → IntTy
-public i = record { width = i.width; secret = false }
-
-abbrev pub level_erased : Ty-F Ty → Ty
-level_erased Ty-F.Bool = t.Bool
-level_erased Ty-F.Unit = t.Unit
-level_erased (Ty-F.Int i) = t.Int (public i)
-level_erased (Ty-F.Buf a) = t.Buf a
-level_erased (Ty-F.Var x) = t.Var x
-level_erased (Ty-F.Named x ts) = t.Named x ts
-
--- the type with each integer type as the public one of its width
-abbrev pub erased : Ty → Ty
-erased = fold-Ty Ty level_erased
-
-abbrev pub int_ty : IntTy → Ty
-int_ty i = t.Int (public i)
-
--- the type of an index
-abbrev pub u32 : Ty
-u32 = t.Int (record { width = W32; secret = false })
-
--- ---- type arguments
-
--- the argument of a type variable; a variable that has none stays
-abbrev pub argument_of : List (List ℕ) → List Ty → List ℕ → Ty
-argument_of (v ∷ vars) (a ∷ args) x = if bytes_eq v x then a else argument_of vars args x
-argument_of _ _ x = t.Var x
-
-abbrev pub level_at : List (List ℕ) → List Ty → Ty-F Ty → Ty
-level_at vars args Ty-F.Bool = t.Bool
-level_at vars args Ty-F.Unit = t.Unit
-level_at vars args (Ty-F.Int i) = t.Int i
-level_at vars args (Ty-F.Buf a) = t.Buf a
-level_at vars args (Ty-F.Var x) = argument_of vars args x
-level_at vars args (Ty-F.Named x ts) = t.Named x ts
-
--- a type with arguments in place of type variables
-abbrev pub type_at : List (List ℕ) → List Ty → Ty → Ty
-type_at vars args = fold-Ty Ty (level_at vars args)
-
--- ---- values and buffers
-
-abbrev pub is_unit_in : Ty-F Ty → Bool
-is_unit_in Ty-F.Unit = true
-is_unit_in _ = false
 
 -- A type of values: any but `unit`.
 abbrev pub IsValue : Ty → Type 0

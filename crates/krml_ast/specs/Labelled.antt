@@ -19,8 +19,7 @@ use Rattle.krml_syntax.specs.declared.tree.Expr.TheOpen.{Expr-F, Arm-F, Item-F, 
 use Rattle.krml_syntax.specs.declared.tree.Expr.TheFolds.{fold-Expr, fold-Arm, fold-Item, fold-Case}
 use Rattle.krml_syntax.specs.Read.{◌>>=◌}
 use Rattle.krml_ast.specs.Names.{Constructor, struct_named, con_named, table_named, fun_named, field_named}
-use Rattle.krml_ast.specs.IsType.{erased, type_at}
-use Rattle.krml_ast.specs.TypeParts.{element_of, name_of, arguments_of}
+use Rattle.krml_syntax.specs.Types.{erased, type_at, element_of, name_of, arguments_of}
 use Rattle.krml_ast.specs.Typing.{Vars, look, Scope, with_vars, in_frame, HasType}
 
 -- ---- types

@@ -5,7 +5,6 @@ pub mod Labelled
 pub mod Names
 pub mod Pieces
 pub mod Places
-pub mod TypeParts
 pub mod Typing
 pub mod Vars
 pub mod WellTyped

@@ -1,6 +1,6 @@
 -- The types of expressions, with labels erased: one rule a form of the language.
 -- The types in scopes and those that the rules give are erased ones.
-use Rattle.std.specs.Prelude.{◌≡◌, ℕ, ◌<◌, ◌≤◌, ◌^◌, Bool, List, [], ◌∷◌, ◌++◌, map, length, slice_get, ◌⊎◌, Option, Some, None, if◌then◌else◌}
+use Rattle.std.specs.Prelude.{◌≡◌, ℕ, ◌<◌, ◌≤◌, ◌^◌, Bool, List, [], ◌∷◌, ◌++◌, map, length, slice_get, ◌⊎◌, Option, Some, None}
 use Rattle.std.specs.List.{IsDistinct}
 use Rattle.std.specs.Str.{bytes_eq}
 use Rattle.krml_trace.specs.Width.{bits}
@@ -20,16 +20,14 @@ use Rattle.krml_syntax.specs.declared.tree.Item.TheVariants as item
 use Rattle.krml_syntax.specs.declared.tree.Expr.{Expr}
 use Rattle.krml_syntax.specs.declared.tree.Expr.TheVariants as e
 use Rattle.krml_syntax.specs.declared.tree.Def.{Def}
+pub use Rattle.krml_intern.specs.Scope.{look}
 use Rattle.krml_ast.specs.Names.{Struct, Constructor, Signature, type_named, con_named, table_named, fun_named, field_named}
-use Rattle.krml_ast.specs.IsType.{erased, int_ty, u32, type_at, IsValue, IsFlat, IsType, AreArguments}
+use Rattle.krml_syntax.specs.Types.{erased, int_ty, u32, type_at}
+use Rattle.krml_ast.specs.IsType.{IsValue, IsFlat, IsType, AreArguments}
 
 -- The types of the variables in scope, the newest first.
 abbrev pub Vars : Type 0
 Vars = List (List ℕ × Ty)
-
-abbrev pub look : Vars → List ℕ → Option Ty
-look [] x = None
-look ((y, a) ∷ vars) x = if bytes_eq y x then Some a else look vars x
 
 -- Where an expression stands: the variables, and the slots of the frame around it where no loop stands between.
 pub record Scope : Type 0 where

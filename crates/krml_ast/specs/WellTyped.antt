@@ -12,7 +12,8 @@ use Rattle.krml_syntax.specs.declared.tree.Expr.{Expr}
 use Rattle.krml_syntax.specs.declared.tree.Def.{Def}
 use Rattle.krml_syntax.specs.declared.tree.Def.TheVariants as d
 use Rattle.krml_ast.specs.Names.{Signature, fun_named}
-use Rattle.krml_ast.specs.IsType.{erased, IsValue, IsFlat, IsType}
+use Rattle.krml_syntax.specs.Types.{erased}
+use Rattle.krml_ast.specs.IsType.{IsValue, IsFlat, IsType}
 use Rattle.krml_ast.specs.Typing.{HasType, IsResult}
 
 -- ---- the names that definitions give, kind by kind

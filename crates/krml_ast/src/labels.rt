@@ -4,7 +4,7 @@ ghost use Rattle.std.specs.Prelude.{◌≡◌, [], ◌∷◌, ◌++◌, IfOk, Is
 ghost use Rattle.std.specs.Option.{option_copied};
 ghost use Rattle.krml_syntax.specs.declared.tree.Ty.{out-Ty};
 ghost use Rattle.krml_syntax.specs.declared.tree.Ty.TheVariants.{Buf, Named};
-ghost use Rattle.krml_ast.specs.TypeParts.{element_of};
+ghost use Rattle.krml_syntax.specs.Types.{element_of};
 ghost use Rattle.krml_ast.specs.Names.{con_named, struct_named};
 ghost use Rattle.krml_ast.specs.Labelled.{hidden, con_parts, make_parts, parts_bind, binds, tab_type, con_type, call_type, field_type, part_type, fill_type, first_arm, first_case, items_bind, labelled_in, arm_labelled, item_binds, case_labelled, vars_of_fields, labelled_type, IsTypedIn, IsLabelled};
 

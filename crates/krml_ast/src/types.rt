@@ -3,8 +3,7 @@
 ghost use Rattle.std.specs.Prelude.{◌≡◌, IfOk, IsOkAnd, map, option_map};
 ghost use Rattle.krml_syntax.specs.declared.tree.Ty.TheVariants.{Buf, Named, Var};
 ghost use Rattle.krml_syntax.specs.declared.tree.Ty.{out-Ty};
-ghost use Rattle.krml_ast.specs.IsType.{argument_of, type_at};
-ghost use Rattle.krml_ast.specs.TypeParts.{element_of, name_of, arguments_of};
+ghost use Rattle.krml_syntax.specs.Types.{argument_of, type_at, element_of, name_of, arguments_of};
 
 use krml_syntax::Ty;
 use krml_trace::{Box, Name, NoMemory, Seq};

@@ -8,7 +8,8 @@ use Rattle.krml_syntax.specs.declared.tree.Ty.TheVariants as t
 use Rattle.krml_syntax.specs.declared.tree.Field.{Field}
 use Rattle.krml_syntax.specs.declared.tree.Def.{Def}
 use Rattle.krml_syntax.specs.declared.tree.Def.TheVariants as d
-use Rattle.krml_ast.specs.IsType.{erased, IsValue, IsFlat, IsType}
+use Rattle.krml_syntax.specs.Types.{erased}
+use Rattle.krml_ast.specs.IsType.{IsValue, IsFlat, IsType}
 use Rattle.krml_ast.specs.Typing.{Vars, HasType}
 use Rattle.krml_ast.specs.WellTyped.{type_name, con_names, table_name, fun_name, entry_name, names_of, IsOutside, IsAnswer, WellTyped, AreWellTyped}
 use Rattle.krml_bundle.specs.Emitted.{emitted_fun, emitted_type, emitted_table, emitted_field}

@@ -10,9 +10,10 @@ use Rattle.krml_syntax.specs.declared.tree.Ty.TheFolds.{ind-Ty}
 use Rattle.krml_syntax.specs.declared.tree.Field.{Field}
 use Rattle.krml_syntax.specs.declared.tree.Def.{Def}
 use Rattle.krml_ast.specs.Names.{Composite, Struct, Sum, type_named, vars_of}
-use Rattle.krml_ast.specs.IsType.{public, erased, int_ty, type_at, is_unit_in, IsValue, HoldsBuffer, IsFlat, IsType, AreArguments}
+use Rattle.krml_syntax.specs.Types.{public, erased, int_ty, type_at, is_unit_in}
+use Rattle.krml_ast.specs.IsType.{IsValue, HoldsBuffer, IsFlat, IsType, AreArguments}
 use Rattle.krml_ast.specs.Typing.{at}
-use Rattle.krml_meaning.proofs.Types.{erased_bool, erased_unit, erased_int, erased_buf, erased_var, erased_named}
+use Rattle.krml_syntax.proofs.Types.{erased_bool, erased_unit, erased_int, erased_buf, erased_var, erased_named}
 use Rattle.krml_bundle.specs.Emitted.{emitted_type}
 use Rattle.krml_bundle.specs.Bundled.{ty_bundled, field_bundled, def_bundled}
 use Rattle.krml_bundle.proofs.RunsValues.{ty_under, out_ty_bundled, bool_ty_bundled, unit_ty_bundled, int_ty_bundled, buf_ty_bundled, var_ty_bundled, named_ty_bundled, bundled_at}

@@ -18,7 +18,7 @@ use Rattle.krml_syntax.specs.declared.tree.Expr.{Expr}
 use Rattle.krml_syntax.specs.declared.tree.Def.{Def}
 use Rattle.krml_syntax.specs.declared.tree.Def.TheVariants as d
 use Rattle.krml_ast.specs.Names.{Struct, Constructor, Signature, con_in, con_or, con_named, table_named, fun_named, field_named}
-use Rattle.krml_ast.specs.IsType.{erased, int_ty, u32}
+use Rattle.krml_syntax.specs.Types.{erased, int_ty, u32}
 use Rattle.krml_ast.specs.Typing.{Vars, look, Scope, with_vars, in_loop, in_frame, at, fields_at, IsResult, Matches, MatchAll, AreDistinct, HasType, AllHaveType, ArmsHaveType, ItemsLead, CasesHaveType}
 use Rattle.krml_bundle.specs.Emitted.{emitted_fun, emitted_type, emitted_table, emitted_field}
 use Rattle.krml_bundle.specs.Bundled.{ty_bundled, field_bundled, param_bundled, con_bundled, slot_bundled, pat_bundled, expr_bundled, def_bundled, item_bundled, arm_bundled, case_bundled}

@@ -13,14 +13,14 @@ use Rattle.krml_syntax.specs.declared.tree.Ty.TheVariants as t
 use Rattle.krml_syntax.specs.declared.tree.Ty.TheOpen.{Ty-F}
 use Rattle.krml_syntax.specs.declared.tree.Ty.TheFolds.{fold_out-Ty, ind-Ty}
 use Rattle.krml_syntax.specs.declared.tree.Slot.{Slot}
-use Rattle.krml_ast.specs.IsType.{argument_of, type_at}
+use Rattle.krml_syntax.specs.Types.{argument_of, type_at}
 use Rattle.krml_meaning.specs.declared.value.Value.{Value, out-Value, roll-Value, map-Value}
 use Rattle.krml_meaning.specs.declared.value.Value.TheViews.{out-roll-Value}
 use Rattle.krml_meaning.specs.declared.value.Value.TheVariants as v
 use Rattle.krml_meaning.specs.declared.value.Value.TheOpen.{Value-F}
 use Rattle.krml_meaning.specs.declared.value.Value.TheFolds.{fold-Value, fold_out-Value}
 use Rattle.krml_meaning.specs.State.{Block, SourceState, SourceRan, Variables, Env, value_of, with_vars, closed, closed_slot, number_in, as_number, truth_in, as_truth, buffer_in, as_buffer, struct_in, as_struct, con_in, as_con, update, set_or_add, with_item, put, fresh, dead, close_from}
-use Rattle.krml_meaning.proofs.Types.{at_bool, at_unit, at_int, at_buf, at_var, at_named}
+use Rattle.krml_syntax.proofs.Types.{at_bool, at_unit, at_int, at_buf, at_var, at_named}
 use Rattle.krml_bundle.specs.Emitted.{emitted_type, emitted_field}
 use Rattle.krml_bundle.specs.Bundled.{level_ty, ty_bundled, slot_bundled, event_bundled}
 

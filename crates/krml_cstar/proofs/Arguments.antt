@@ -14,13 +14,13 @@ use Rattle.krml_syntax.specs.declared.tree.Ty.TheVariants as t
 use Rattle.krml_syntax.specs.declared.tree.Ty.TheOpen.{Ty-F}
 use Rattle.krml_syntax.specs.declared.tree.Field.{Field}
 use Rattle.krml_syntax.specs.declared.tree.Def.{Def}
-use Rattle.krml_ast.specs.IsType.{erased}
+use Rattle.krml_syntax.specs.Types.{erased}
 use Rattle.krml_meaning.specs.declared.value.Value.{Value}
 use Rattle.krml_meaning.specs.declared.value.Value.TheVariants as v
 use Rattle.krml_meaning.specs.Meaning as src
 use Rattle.krml_meaning.specs.Shape.{number_ty, HasShape, AllHaveShape}
 use Rattle.krml_meaning.proofs.Lists.{same_some, no_some}
-use Rattle.krml_meaning.proofs.Types.{erased_bool, erased_int}
+use Rattle.krml_syntax.proofs.Types.{erased_bool, erased_int}
 use Rattle.krml_meaning.proofs.Entries.{width_is, then_is}
 use Rattle.krml_ctree.specs.declared.value.CValue.{CValue}
 use Rattle.krml_ctree.specs.Meaning as tgt

@@ -7,7 +7,7 @@ use Rattle.krml_syntax.specs.declared.tree.Item.{Item}
 use Rattle.krml_syntax.specs.declared.tree.Item.TheVariants as item
 use Rattle.krml_syntax.specs.declared.tree.Expr.{Expr}
 use Rattle.krml_syntax.specs.declared.tree.Def.{Def}
-use Rattle.krml_ast.specs.IsType.{erased, int_ty, u32}
+use Rattle.krml_syntax.specs.Types.{erased, int_ty, u32}
 use Rattle.krml_ast.specs.Typing.{Scope, with_vars, in_loop, fields_at, HasType, AllHaveType, ItemsLead}
 use Rattle.krml_ast.specs.WellTyped.{AreWellTyped}
 use Rattle.krml_meaning.proofs.Files.{facts}

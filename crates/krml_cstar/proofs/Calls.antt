@@ -12,7 +12,8 @@ use Rattle.krml_syntax.specs.declared.tree.Ty.TheVariants as t
 use Rattle.krml_syntax.specs.declared.tree.Def.{Def}
 use Rattle.krml_ast.specs.declared.event.SourceEvent.TheVariants as event
 use Rattle.krml_ast.specs.Names.{Signature, fun_named, table_named}
-use Rattle.krml_ast.specs.IsType.{erased, int_ty, u32, AreArguments}
+use Rattle.krml_syntax.specs.Types.{erased, int_ty, u32}
+use Rattle.krml_ast.specs.IsType.{AreArguments}
 use Rattle.krml_ast.specs.Typing.{Vars, at, fields_at}
 use Rattle.krml_ast.specs.WellTyped.{AreWellTyped}
 use Rattle.krml_meaning.specs.declared.value.Value.{Value}

@@ -16,7 +16,7 @@ use Rattle.krml_syntax.specs.declared.tree.Item.{Item}
 use Rattle.krml_syntax.specs.declared.tree.Item.TheVariants as item
 use Rattle.krml_syntax.specs.declared.tree.Def.{Def}
 use Rattle.krml_ast.specs.Names.{fun_named}
-use Rattle.krml_ast.specs.IsType.{u32}
+use Rattle.krml_syntax.specs.Types.{u32}
 use Rattle.krml_ctree.specs.declared.tree.CmpKind.TheVariants as ck
 use Rattle.krml_ctree.specs.declared.tree.CType.TheVariants as ct
 use Rattle.krml_ctree.specs.declared.tree.CExpr.{CExpr}

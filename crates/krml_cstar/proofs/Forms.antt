@@ -10,7 +10,7 @@ use Rattle.krml_syntax.specs.declared.tree.Ty.{Ty}
 use Rattle.krml_syntax.specs.declared.tree.Ty.TheVariants as t
 use Rattle.krml_syntax.specs.declared.tree.Ty.TheOpen.{Ty-F}
 use Rattle.krml_syntax.specs.declared.tree.Def.{Def}
-use Rattle.krml_ast.specs.IsType.{erased, is_unit_in}
+use Rattle.krml_syntax.specs.Types.{erased, is_unit_in}
 use Rattle.krml_ast.specs.Typing.{Vars, look}
 use Rattle.krml_meaning.specs.declared.value.Value.{Value, out-Value}
 use Rattle.krml_meaning.specs.declared.value.Value.TheVariants as v

@@ -13,7 +13,7 @@ use Rattle.krml_syntax.specs.declared.tree.BinOp.TheVariants as op
 use Rattle.krml_syntax.specs.declared.tree.CmpOp.TheVariants as cmp
 use Rattle.krml_syntax.specs.declared.tree.Def.{Def}
 use Rattle.krml_ast.specs.declared.event.SourceEvent.TheVariants as event
-use Rattle.krml_ast.specs.IsType.{u32}
+use Rattle.krml_syntax.specs.Types.{u32}
 use Rattle.krml_ast.specs.Typing.{Vars}
 use Rattle.krml_ast.specs.WellTyped.{AreWellTyped}
 use Rattle.krml_meaning.specs.declared.value.Value.{Value}

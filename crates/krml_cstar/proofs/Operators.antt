@@ -15,7 +15,7 @@ use Rattle.krml_syntax.specs.declared.tree.BinOp.{BinOp}
 use Rattle.krml_syntax.specs.declared.tree.BinOp.TheVariants as op
 use Rattle.krml_syntax.specs.declared.tree.CmpOp.{CmpOp}
 use Rattle.krml_syntax.specs.declared.tree.Def.{Def}
-use Rattle.krml_ast.specs.IsType.{int_ty, u32}
+use Rattle.krml_syntax.specs.Types.{int_ty, u32}
 use Rattle.krml_ast.specs.Typing.{Vars}
 use Rattle.krml_meaning.specs.declared.value.Value.{Value}
 use Rattle.krml_meaning.specs.declared.value.Value.TheVariants as v

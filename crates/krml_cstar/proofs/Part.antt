@@ -13,13 +13,14 @@ use Rattle.krml_syntax.specs.declared.tree.Expr.{Expr}
 use Rattle.krml_syntax.specs.declared.tree.Def.{Def}
 use Rattle.krml_syntax.specs.declared.tree.Def.TheVariants as d
 use Rattle.krml_ast.specs.Names.{Struct, Sum, Signature, type_named, table_named, fun_named}
-use Rattle.krml_ast.specs.IsType.{public, erased, type_at, IsValue, IsType}
+use Rattle.krml_syntax.specs.Types.{public, erased, type_at}
+use Rattle.krml_ast.specs.IsType.{IsValue, IsType}
 use Rattle.krml_ast.specs.Typing.{at, fields_at}
 use Rattle.krml_ast.specs.WellTyped.{names_of, WellTyped, AreWellTyped}
 use Rattle.krml_meaning.specs.Meaning as src
 use Rattle.krml_meaning.proofs.Lists.{same_some, no_some, each_so}
 use Rattle.krml_meaning.proofs.Facts.{same_struct}
-use Rattle.krml_meaning.proofs.Types.{erased_bool, erased_unit, erased_int, erased_named, at_bool, at_unit, at_int, at_named}
+use Rattle.krml_syntax.proofs.Types.{erased_bool, erased_unit, erased_int, erased_named, at_bool, at_unit, at_int, at_named}
 use Rattle.krml_meaning.proofs.Flat.{by_form}
 use Rattle.krml_meaning.proofs.Files.{each_def}
 use Rattle.krml_cstar.specs.Built.{is_public, is_empty, level_ty_built, is_ty_built, are_fields_built, is_expr_built, is_built, AreBuilt}

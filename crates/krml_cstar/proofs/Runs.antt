@@ -19,7 +19,8 @@ use Rattle.krml_syntax.specs.declared.tree.Def.{Def}
 use Rattle.krml_syntax.specs.declared.tree.Def.TheVariants as d
 use Rattle.krml_syntax.specs.declared.tree.SourceFile.{SourceFile}
 use Rattle.krml_ast.specs.Names.{Signature, fun_named}
-use Rattle.krml_ast.specs.IsType.{public, erased, int_ty, AreArguments}
+use Rattle.krml_syntax.specs.Types.{public, erased, int_ty}
+use Rattle.krml_ast.specs.IsType.{AreArguments}
 use Rattle.krml_ast.specs.Typing.{fields_at}
 use Rattle.krml_ast.specs.Typing as typing
 use Rattle.krml_ast.specs.WellTyped.{IsAnswer, AreWellTyped}
@@ -30,7 +31,7 @@ use Rattle.krml_meaning.specs.Meaning as src
 use Rattle.krml_meaning.specs.Shape.{HasShape, AllHaveShape}
 use Rattle.krml_meaning.specs.Sound.{Fine}
 use Rattle.krml_meaning.proofs.Lists.{same_some, no_some, same_answer}
-use Rattle.krml_meaning.proofs.Types.{erased_bool, erased_unit, erased_int}
+use Rattle.krml_syntax.proofs.Types.{erased_bool, erased_unit, erased_int}
 use Rattle.krml_meaning.proofs.Shapes.{ShapeIn}
 use Rattle.krml_meaning.proofs.Files.{facts, each_def}
 use Rattle.krml_meaning.proofs.Entries.{EntryTyped, EntryFits, entry_fits, entry_there, Started, shape_as, started, some_there}

@@ -10,7 +10,8 @@ use Rattle.krml_syntax.specs.declared.tree.Item.{Item}
 use Rattle.krml_syntax.specs.declared.tree.Item.TheVariants as item
 use Rattle.krml_syntax.specs.declared.tree.Expr.{Expr}
 use Rattle.krml_syntax.specs.declared.tree.Def.{Def}
-use Rattle.krml_ast.specs.IsType.{erased, int_ty, u32, IsValue}
+use Rattle.krml_syntax.specs.Types.{erased, int_ty, u32}
+use Rattle.krml_ast.specs.IsType.{IsValue}
 use Rattle.krml_ast.specs.Typing.{Vars, Scope, with_vars, in_loop, at, fields_at, HasType, AllHaveType, ItemsLead}
 use Rattle.krml_ast.specs.WellTyped.{AreWellTyped}
 use Rattle.krml_meaning.specs.State.{Sem, each_from}

@@ -12,7 +12,8 @@ use Rattle.krml_syntax.specs.declared.tree.Ty.TheOpen.{Ty-F}
 use Rattle.krml_syntax.specs.declared.tree.Field.{Field}
 use Rattle.krml_syntax.specs.declared.tree.Def.{Def}
 use Rattle.krml_ast.specs.Names.{Struct, Sum, type_named, field_named}
-use Rattle.krml_ast.specs.IsType.{erased, is_unit_in, IsValue, IsType, AreArguments}
+use Rattle.krml_syntax.specs.Types.{erased, is_unit_in}
+use Rattle.krml_ast.specs.IsType.{IsValue, IsType, AreArguments}
 use Rattle.krml_ast.specs.Typing.{Vars, at, fields_at}
 use Rattle.krml_ast.specs.WellTyped.{names_of, AreWellTyped}
 use Rattle.krml_meaning.specs.declared.value.Value.{Value, out-Value}

@@ -9,7 +9,8 @@ use Rattle.krml_syntax.specs.declared.tree.Ty.TheVariants as t
 use Rattle.krml_syntax.specs.declared.tree.Field.{Field}
 use Rattle.krml_syntax.specs.declared.tree.Def.{Def}
 use Rattle.krml_ast.specs.Names.{Struct, type_named}
-use Rattle.krml_ast.specs.IsType.{erased, is_unit_in, IsValue}
+use Rattle.krml_syntax.specs.Types.{erased, is_unit_in}
+use Rattle.krml_ast.specs.IsType.{IsValue}
 use Rattle.krml_ast.specs.WellTyped.{names_of}
 use Rattle.krml_meaning.specs.declared.value.Value.{Value}
 use Rattle.krml_meaning.specs.declared.value.Value.TheVariants as v

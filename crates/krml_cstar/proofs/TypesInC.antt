@@ -5,11 +5,11 @@ use Rattle.krml_syntax.specs.declared.tree.Ty.{Ty, out-Ty, roll-Ty, map-Ty}
 use Rattle.krml_syntax.specs.declared.tree.Ty.TheVariants as t
 use Rattle.krml_syntax.specs.declared.tree.Ty.TheOpen.{Ty-F}
 use Rattle.krml_syntax.specs.declared.tree.Ty.TheFolds.{fold_out-Ty, ind-Ty}
-use Rattle.krml_ast.specs.IsType.{is_unit_in, level_erased, erased}
+use Rattle.krml_syntax.specs.Types.{is_unit_in, level_erased, erased}
 use Rattle.krml_ctree.specs.declared.tree.CType.{CType}
 use Rattle.krml_ctree.specs.declared.tree.CType.TheVariants as ct
 use Rattle.krml_ctree.specs.Text.{width_type}
-use Rattle.krml_meaning.proofs.Types.{erased_bool, erased_unit, erased_int, erased_buf, erased_var, erased_named}
+use Rattle.krml_syntax.proofs.Types.{erased_bool, erased_unit, erased_int, erased_buf, erased_var, erased_named}
 use Rattle.krml_cstar.specs.Translation.{ctype_in, ctype, is_unit}
 
 -- ---- in C

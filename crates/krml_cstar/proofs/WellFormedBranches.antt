@@ -4,7 +4,7 @@ use Rattle.krml_trace.specs.declared.width.Width.TheVariants.{W8, W32}
 use Rattle.krml_syntax.specs.declared.tree.Ty.{Ty}
 use Rattle.krml_syntax.specs.declared.tree.Ty.TheVariants as t
 use Rattle.krml_ast.specs.FileTypes as file
-use Rattle.krml_ast.specs.IsType.{erased, u32}
+use Rattle.krml_syntax.specs.Types.{erased, u32}
 use Rattle.krml_ast.specs.Typing.{Vars}
 use Rattle.krml_ctree.specs.declared.tree.CType.{CType}
 use Rattle.krml_ctree.specs.declared.tree.CType.TheVariants as ct
@@ -17,7 +17,7 @@ use Rattle.krml_ctree.specs.declared.tree.CStatement.TheVariants as st
 use Rattle.krml_ctree.specs.declared.tree.CProgram.{CProgram}
 use Rattle.krml_ctree.specs.Shape.{ExprKeeps}
 use Rattle.krml_ctree.specs.WellFormed.{Scope, of_var, IsArithmetic, IsPlainOperator, HasType}
-use Rattle.krml_meaning.proofs.Types.{erased_unit, erased_int}
+use Rattle.krml_syntax.proofs.Types.{erased_unit, erased_int}
 use Rattle.krml_cstar.specs.Translation.{ctype, is_unit, plain, named, var, Known, Names, Out, Comp, nothing, does, arm, into, stepped, if_unit, if_value, choice, ItemComp, bound, done, items, block, while, for}
 use Rattle.krml_cstar.proofs.VariableNames.{number-named, number-plain}
 use Rattle.krml_cstar.proofs.WellFormedNames.{plain_is, named_is}

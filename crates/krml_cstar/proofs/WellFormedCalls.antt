@@ -9,7 +9,7 @@ use Rattle.krml_syntax.specs.declared.tree.Ty.TheVariants as t
 use Rattle.krml_syntax.specs.declared.tree.Field.{Field}
 use Rattle.krml_syntax.specs.declared.tree.Def.{Def}
 use Rattle.krml_ast.specs.Names.{Signature, Struct, type_named, struct_named, table_named, fun_named, field_named}
-use Rattle.krml_ast.specs.IsType.{public, erased, int_ty, u32}
+use Rattle.krml_syntax.specs.Types.{public, erased, int_ty, u32}
 use Rattle.krml_ast.specs.Typing.{Vars, at, fields_at}
 use Rattle.krml_ctree.specs.declared.tree.CType.{CType}
 use Rattle.krml_ctree.specs.declared.tree.CType.TheVariants as ct
@@ -22,7 +22,7 @@ use Rattle.krml_ctree.specs.Text.{width_type}
 use Rattle.krml_ctree.specs.Shape.{IsTable, IsField, IsFunction, IsPlain, TypeKeeps, ExprKeeps, ExprsKeep}
 use Rattle.krml_ctree.specs.WellFormed.{Scope, of_var, IsKnown, HasType, HaveTypes}
 use Rattle.krml_meaning.proofs.Lists.{same_some, no_some}
-use Rattle.krml_meaning.proofs.Types.{erased_int, erased_named}
+use Rattle.krml_syntax.proofs.Types.{erased_int, erased_named}
 use Rattle.krml_cstar.specs.Translation.{ctype, is_unit, plain, var, Comp, gives, does, value, operand, built, got, field_type, type_or_unit, looked_up, table_type, result_of, ran, called, call, params_from, cvars}
 use Rattle.krml_cstar.specs.Translation as tr
 use Rattle.krml_cstar.proofs.Lookups.{fields_of}

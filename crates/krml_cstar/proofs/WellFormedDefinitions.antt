@@ -14,7 +14,8 @@ use Rattle.krml_syntax.specs.declared.tree.Expr.{Expr}
 use Rattle.krml_syntax.specs.declared.tree.Def.{Def}
 use Rattle.krml_syntax.specs.declared.tree.Def.TheVariants as d
 use Rattle.krml_ast.specs.Names.{Composite, Struct, Signature, type_named, table_named, fun_named}
-use Rattle.krml_ast.specs.IsType.{erased, IsValue, IsType}
+use Rattle.krml_syntax.specs.Types.{erased}
+use Rattle.krml_ast.specs.IsType.{IsValue, IsType}
 use Rattle.krml_ast.specs.Typing.{HasType}
 use Rattle.krml_ast.specs.WellTyped.{WellTyped, AreWellTyped, type_name, table_name, fun_name}
 use Rattle.krml_ast.specs.FileTypes.{IsPlainName, IsEmitted, HasSize, field_names}
@@ -26,7 +27,7 @@ use Rattle.krml_ctree.specs.declared.tree.CProgram.{CProgram}
 use Rattle.krml_ctree.specs.Shape.{IsPlain, TypeKeeps, IsStruct, IsTable, IsFunction, IsField}
 use Rattle.krml_ctree.specs.WellFormed.{IsKnown}
 use Rattle.krml_meaning.proofs.Lists.{same_some, no_some, each_so, each_append, each_left, each_right}
-use Rattle.krml_meaning.proofs.Types.{at_none}
+use Rattle.krml_syntax.proofs.Types.{at_none}
 use Rattle.krml_meaning.proofs.Files.{contains_first, contains_later, facts}
 use Rattle.krml_cstar.specs.Built.{is_ty_built, is_empty, are_fields_built, is_expr_built, is_built}
 use Rattle.krml_cstar.specs.Translation.{ctype, fun_code, structs_of, tables_of, funs_of}
@@ -187,7 +188,7 @@ module _ (defs : List Def) where
   parts_there p [] fits h built = tt
   parts_there p (f ∷ fields) fits h built =
       let k = and_parts (is_ty_built f.ty) (are_fields_built fields) built in
-      (record { fits = fits f.ty h.0.0 k.0; value = h.0.1; closed = λ args. ap erased (at_none defs args f.ty h.0.0) }, parts_there p fields fits h.1 k.1)
+      (record { fits = fits f.ty h.0.0 k.0; value = h.0.1; closed = λ args. ap erased (at_none args f.ty) }, parts_there p fields fits h.1 k.1)
 
   -- ---- look-ups
 
@@ -320,7 +321,7 @@ module _ (defs : List Def) where
           none = none;
           each = parts_there p f.params fits params g.built.fields;
           gives = fits f.result result g.built.gives;
-          closed = λ args. ap erased (at_none defs args f.result result);
+          closed = λ args. ap erased (at_none args f.result);
         }
 
     -- what the names of the file mean stands in the program

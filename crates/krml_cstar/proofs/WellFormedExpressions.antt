@@ -10,7 +10,7 @@ use Rattle.krml_syntax.specs.declared.tree.Expr.TheVariants as e
 use Rattle.krml_syntax.specs.declared.tree.Expr.TheFolds.{fold-Item, fold_out-Expr, fold_out-Item}
 use Rattle.krml_syntax.specs.declared.tree.Def.{Def}
 use Rattle.krml_ast.specs.Names.{Signature, fun_named}
-use Rattle.krml_ast.specs.IsType.{erased, int_ty, u32}
+use Rattle.krml_syntax.specs.Types.{erased, int_ty, u32}
 use Rattle.krml_ast.specs.Typing.{Vars, Scope, at, fields_at, HasType, AllHaveType, ItemsLead}
 use Rattle.krml_ctree.specs.declared.tree.CProgram.{CProgram}
 use Rattle.krml_cstar.specs.Translation.{Comp, ItemComp, gives, built, call, code_step, item_step, code_of, items}

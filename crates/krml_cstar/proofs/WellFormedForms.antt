@@ -9,7 +9,7 @@ use Rattle.krml_syntax.specs.declared.tree.Ty.TheVariants as t
 use Rattle.krml_syntax.specs.declared.tree.BinOp.{BinOp}
 use Rattle.krml_syntax.specs.declared.tree.BinOp.TheVariants as op
 use Rattle.krml_syntax.specs.declared.tree.CmpOp.{CmpOp}
-use Rattle.krml_ast.specs.IsType.{public, erased, int_ty, u32}
+use Rattle.krml_syntax.specs.Types.{public, erased, int_ty, u32}
 use Rattle.krml_ast.specs.Typing.{Vars}
 use Rattle.krml_ast.specs.Typing as typing
 use Rattle.krml_ctree.specs.declared.tree.CType.TheVariants as ct
@@ -24,7 +24,7 @@ use Rattle.krml_ctree.specs.declared.tree.CProgram.{CProgram}
 use Rattle.krml_ctree.specs.Text.{width_type}
 use Rattle.krml_ctree.specs.Shape.{ExprKeeps}
 use Rattle.krml_ctree.specs.WellFormed.{Scope, of_var, IsPlainOperator, HasType}
-use Rattle.krml_meaning.proofs.Types.{erased_bool, erased_unit, erased_int}
+use Rattle.krml_syntax.proofs.Types.{erased_bool, erased_unit, erased_int}
 use Rattle.krml_cstar.specs.Translation.{ctype, is_unit, plain, var, Known, Names, Out, Comp, nothing, gives, does, value, widen, narrow, work, literal, truth, operands, operand, arithmetic, divided, eq_mask, gte_mask, binary, shift_op, shifted, kind, compared, opposite, converted, variable, look}
 use Rattle.krml_cstar.proofs.VariableNames.{number-plain}
 use Rattle.krml_cstar.proofs.WellFormedNames.{plain_is}

@@ -7,7 +7,8 @@ use Rattle.krml_syntax.specs.declared.tree.Ty.{Ty}
 use Rattle.krml_syntax.specs.declared.tree.Field.{Field}
 use Rattle.krml_syntax.specs.declared.tree.Def.{Def}
 use Rattle.krml_ast.specs.Names.{Signature, Struct, type_named, table_named, fun_named}
-use Rattle.krml_ast.specs.IsType.{erased, IsType}
+use Rattle.krml_syntax.specs.Types.{erased}
+use Rattle.krml_ast.specs.IsType.{IsType}
 use Rattle.krml_ast.specs.Typing.{Vars, at}
 use Rattle.krml_ast.specs.Typing as typing
 use Rattle.krml_ctree.specs.declared.tree.CVar.{CVar}

@@ -12,7 +12,8 @@ use Rattle.krml_syntax.specs.declared.tree.Def.{Def}
 use Rattle.krml_syntax.specs.declared.tree.Def.TheVariants as d
 use Rattle.krml_syntax.specs.declared.tree.SourceFile.{SourceFile}
 use Rattle.krml_ast.specs.declared.file.Emitted.{Emitted}
-use Rattle.krml_ast.specs.IsType.{erased, IsValue, IsType}
+use Rattle.krml_syntax.specs.Types.{erased}
+use Rattle.krml_ast.specs.IsType.{IsValue, IsType}
 use Rattle.krml_ast.specs.Typing.{Vars, HasType}
 use Rattle.krml_ast.specs.Typing as typing
 use Rattle.krml_ast.specs.WellTyped.{WellTyped, AreWellTyped, AreNew, type_name, table_name, fun_name, names_of}

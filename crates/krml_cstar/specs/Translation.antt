@@ -26,7 +26,7 @@ use Rattle.krml_syntax.specs.declared.tree.Def.{Def}
 use Rattle.krml_syntax.specs.declared.tree.Def.TheVariants as d
 use Rattle.krml_syntax.specs.declared.tree.SourceFile.{SourceFile}
 use Rattle.krml_ast.specs.Names.{Signature, struct_named, table_named, fun_named, field_named}
-use Rattle.krml_ast.specs.IsType.{is_unit_in, u32}
+use Rattle.krml_syntax.specs.Types.{is_unit_in, u32}
 use Rattle.krml_ctree.specs.declared.tree.CType.{CType}
 use Rattle.krml_ctree.specs.declared.tree.CType.TheVariants as ct
 use Rattle.krml_ctree.specs.declared.tree.CVar.{CVar}

@@ -4,7 +4,7 @@ ghost use Rattle.std.specs.Prelude.{◌≡◌, ◌+◌, ◌∷◌, ◌++◌, [],
 ghost use Rattle.krml_trace.specs.declared.width.Width.TheVariants.{W8};
 ghost use Rattle.krml_syntax.specs.declared.tree.Ty.{out-Ty};
 ghost use Rattle.krml_syntax.specs.declared.tree.Ty.TheVariants.{Unit as unit_type, Int as int_type};
-ghost use Rattle.krml_ast.specs.IsType.{u32 as word};
+ghost use Rattle.krml_syntax.specs.Types.{u32 as word};
 ghost use Rattle.krml_ast.specs.Names.{fun_named, table_named};
 ghost use Rattle.krml_ctree.specs.Text.{width_type};
 ghost use Rattle.krml_ctree.specs.declared.tree.CmpKind.TheVariants.{Lt};

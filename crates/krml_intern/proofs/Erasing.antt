@@ -4,25 +4,10 @@ use Rattle.krml_syntax.specs.declared.tree.IntTy.{IntTy}
 use Rattle.krml_syntax.specs.declared.tree.Ty.{Ty, out-Ty}
 use Rattle.krml_syntax.specs.declared.tree.Ty.TheOpen.{Ty-F}
 use Rattle.krml_syntax.specs.declared.tree.Ty.TheVariants as ty
-use Rattle.krml_syntax.specs.declared.tree.Ty.TheFolds.{fold_out-Ty}
-use Rattle.krml_ast.specs.IsType.{int_ty, public, erased, level_at, type_at}
-use Rattle.krml_ast.proofs.LabelledTypes.{at_erased, erased_int, erased_buf, erased_named}
+use Rattle.krml_syntax.specs.Types.{int_ty, public, erased}
+use Rattle.krml_syntax.proofs.Types.{erased_twice, erased_int, erased_buf, erased_named}
 use Rattle.krml_intern.specs.Table.{Table, Means, AllMean, Grows}
 use Rattle.krml_intern.specs.Unlabelled.{NoLabels, IsErased, AllErased}
-
--- ---- labels erased twice
-
--- a type is the argument of a type variable
-as_argument : (a : Ty) → type_at ([] ∷ []) (a ∷ []) (ty.Var []) ≡ a
-as_argument a = rw (fold_out-Ty Ty (level_at ([] ∷ []) (a ∷ [])) (ty.Var []), ty.outs-Var) refl
-
-pub erased_twice : (a : Ty) → erased (erased a) ≡ erased a
-erased_twice a =
-    sym (ap erased (sym (as_argument a)) ∙ at_erased ([] ∷ []) (a ∷ []) (ty.Var []) ∙ ap erased (as_argument (erased a)))
-
--- labels of type arguments may be erased before
-pub erased_before : (vars : List (List ℕ)) (types : List Ty) (a : Ty) → erased (type_at vars types a) ≡ erased (type_at vars (map erased types) a)
-erased_before vars types a = at_erased vars types a
 
 -- ---- types without labels
 

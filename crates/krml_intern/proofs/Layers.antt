@@ -3,7 +3,7 @@ use Rattle.std.proofs.Common.{◌≡◌, ℕ, List, [], ◌∷◌, ◌++◌, sli
 use Rattle.krml_syntax.specs.declared.tree.Ty.{Ty, out-Ty}
 use Rattle.krml_syntax.specs.declared.tree.Ty.TheVariants as ty
 use Rattle.krml_syntax.specs.declared.tree.Ty.TheOpen.{Ty-F}
-use Rattle.krml_ast.specs.IsType.{is_unit_in}
+use Rattle.krml_syntax.specs.Types.{is_unit_in}
 use Rattle.krml_intern.specs.declared.node.Node.{Node}
 use Rattle.krml_intern.specs.declared.node.Node.TheVariants as n
 use Rattle.krml_intern.specs.Table.{Table, Means, Stands, AllMean, head_of}

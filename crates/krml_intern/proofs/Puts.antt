@@ -4,7 +4,7 @@ use Rattle.std.proofs.Common.{◌↔◌, ◌≡◌, ℕ, List, [], ◌∷◌, �
 use Rattle.std.proofs.lemmas.Option.{slice_get_within}
 use Rattle.krml_syntax.specs.declared.tree.Ty.{Ty, out-Ty}
 use Rattle.krml_syntax.specs.declared.tree.Ty.TheVariants as ty
-use Rattle.krml_ast.specs.TypeParts.{element_of}
+use Rattle.krml_syntax.specs.Types.{element_of}
 use Rattle.krml_intern.specs.declared.node.Node.TheVariants as n
 use Rattle.krml_intern.specs.declared.node.Node.{Node}
 use Rattle.krml_intern.specs.Parts.{element_in}

@@ -1,7 +1,7 @@
 -- Types whose labels are erased.
 use Rattle.std.specs.Prelude.{◌≡◌, ℕ, List, [], ◌∷◌}
 use Rattle.krml_syntax.specs.declared.tree.Ty.{Ty}
-use Rattle.krml_ast.specs.IsType.{erased}
+use Rattle.krml_syntax.specs.Types.{erased}
 use Rattle.krml_intern.specs.Table.{Table, Means, AllMean}
 
 abbrev pub NoLabels : List Ty → Type 0

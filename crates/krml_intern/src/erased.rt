@@ -4,7 +4,7 @@ ghost use Rattle.std.specs.Prelude.{◌≡◌, List, [], map, IfOk};
 ghost use Rattle.std.specs.Option.{MatchOption};
 ghost use Rattle.krml_syntax.specs.declared.tree.Ty.{Ty};
 ghost use Rattle.krml_syntax.specs.declared.tree.Ty.TheVariants as ty;
-ghost use Rattle.krml_ast.specs.IsType.{argument_of, type_at, erased};
+ghost use Rattle.krml_syntax.specs.Types.{argument_of, type_at, erased};
 ghost use Rattle.krml_intern.specs.Table.{Table, Means, AllMean, Grows};
 ghost use Rattle.krml_intern.specs.Unlabelled.{AllErased, AreErased};
 

@@ -4,8 +4,7 @@ ghost use Rattle.std.specs.Prelude.{◌≡◌, ℕ, List, [], ◌∷◌, ◌++�
 ghost use Rattle.std.specs.Bool.{Decides};
 ghost use Rattle.krml_syntax.specs.declared.tree.Ty.{Ty, out-Ty};
 ghost use Rattle.krml_syntax.specs.declared.tree.Ty.TheVariants as ty;
-ghost use Rattle.krml_ast.specs.IsType.{int_ty, is_unit_in};
-ghost use Rattle.krml_ast.specs.TypeParts.{element_of};
+ghost use Rattle.krml_syntax.specs.Types.{int_ty, is_unit_in, element_of};
 ghost use Rattle.krml_intern.specs.declared.node.Node.{Node as At};
 ghost use Rattle.krml_intern.specs.Table.{Means, Names, Grows, Stands, IsBelow, IsNumber, IsNamed, AllMean, head_of};
 

@@ -15,7 +15,8 @@ use Rattle.krml_syntax.specs.declared.tree.Expr.TheVariants as e
 use Rattle.krml_syntax.specs.declared.tree.Def.{Def}
 use Rattle.krml_syntax.specs.declared.tree.Def.TheVariants as d
 use Rattle.krml_ast.specs.Names.{Constructor, Sum}
-use Rattle.krml_ast.specs.IsType.{erased, int_ty, u32, IsFlat, IsType}
+use Rattle.krml_syntax.specs.Types.{erased, int_ty, u32}
+use Rattle.krml_ast.specs.IsType.{IsFlat, IsType}
 use Rattle.krml_ast.specs.Typing.{Scope, with_vars, in_loop, in_frame, fields_at, at, HasType, AllHaveType, ArmsHaveType, ItemsLead, CasesHaveType}
 use Rattle.krml_ast.specs.Pieces.{Piece, Bound, pieces_of, pieces_of_ty, pieces_of_pat, pieces_of_def, pieces_in, field_types}
 use Rattle.krml_ast.specs.FileTypes.{FormIn, EachForm, HasSize, listed_vars}

@@ -13,7 +13,8 @@ use Rattle.krml_syntax.specs.declared.tree.Ty.TheVariants as t
 use Rattle.krml_syntax.specs.declared.tree.Slot.{Slot}
 use Rattle.krml_syntax.specs.declared.tree.Def.{Def}
 use Rattle.krml_ast.specs.declared.event.SourceEvent.TheVariants as event
-use Rattle.krml_ast.specs.IsType.{erased, u32, HoldsBuffer, IsFlat}
+use Rattle.krml_syntax.specs.Types.{erased, u32}
+use Rattle.krml_ast.specs.IsType.{HoldsBuffer, IsFlat}
 use Rattle.krml_meaning.specs.declared.value.Value.{Value}
 use Rattle.krml_meaning.specs.declared.value.Value.TheVariants as v
 use Rattle.krml_meaning.specs.State.{Block, SourceState, Env, Sem, with_vars, closed_slot, fresh, put, with_item, close_from}

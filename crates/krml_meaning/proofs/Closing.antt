@@ -6,10 +6,12 @@ use Rattle.krml_syntax.specs.declared.tree.Ty.{Ty}
 use Rattle.krml_syntax.specs.declared.tree.Ty.TheVariants as t
 use Rattle.krml_syntax.specs.declared.tree.Field.{Field}
 use Rattle.krml_syntax.specs.declared.tree.Def.{Def}
-use Rattle.krml_ast.specs.IsType.{public, erased, int_ty, type_at, HoldsBuffer, IsFlat, IsType, AreArguments}
+use Rattle.krml_syntax.specs.Types.{public, erased, int_ty, type_at}
+use Rattle.krml_ast.specs.IsType.{HoldsBuffer, IsFlat, IsType, AreArguments}
 use Rattle.krml_ast.specs.Typing.{at, fields_at, IsResult}
 use Rattle.krml_meaning.proofs.Lists.{map_length}
-use Rattle.krml_meaning.proofs.Types.{at_bool, at_unit, at_int, at_buf, at_named, at_same, at_closed, closed_erased, all_closed_erased}
+use Rattle.krml_syntax.proofs.Types.{at_bool, at_unit, at_int, at_buf, at_named}
+use Rattle.krml_meaning.proofs.Types.{at_same, at_closed, closed_erased, all_closed_erased}
 use Rattle.krml_meaning.proofs.Flat.{holds_at, all_flat, flat_at, none_unit, arguments_erased, arguments_closed}
 use Rattle.krml_meaning.proofs.Scopes.{Instance, here}
 

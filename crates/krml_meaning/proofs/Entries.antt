@@ -23,7 +23,8 @@ use Rattle.krml_syntax.specs.declared.tree.Def.{Def}
 use Rattle.krml_syntax.specs.declared.tree.Def.TheVariants as d
 use Rattle.krml_syntax.specs.declared.tree.SourceFile.{SourceFile}
 use Rattle.krml_ast.specs.Names.{Signature, fun_named}
-use Rattle.krml_ast.specs.IsType.{public, erased, int_ty, type_at, is_unit_in, IsValue, AreArguments}
+use Rattle.krml_syntax.specs.Types.{public, erased, int_ty, type_at, is_unit_in}
+use Rattle.krml_ast.specs.IsType.{IsValue, AreArguments}
 use Rattle.krml_ast.specs.Typing.{at, fields_at}
 use Rattle.krml_ast.specs.FileTypes.{EachForm}
 use Rattle.krml_ast.specs.WellTyped.{IsAnswer, WellTyped, AreWellTyped}
@@ -36,7 +37,7 @@ use Rattle.krml_meaning.specs.Shape.{number_ty, HasShape, AllHaveShape, BlockTyp
 use Rattle.krml_trace.specs.After.{After}
 use Rattle.krml_meaning.specs.Sound.{Fine, CanRun, EndsWith, RunsWell, TypedFilesRun}
 use Rattle.krml_meaning.proofs.Lists.{same_some, no_some, same_answer, each_append, get_right, map_length}
-use Rattle.krml_meaning.proofs.Types.{at_bool, at_unit, at_int, at_buf, erased_bool, erased_unit, erased_int, erased_buf}
+use Rattle.krml_syntax.proofs.Types.{at_bool, at_unit, at_int, at_buf, erased_bool, erased_unit, erased_int, erased_buf}
 use Rattle.krml_meaning.proofs.Flat.{by_form, none_int}
 use Rattle.krml_meaning.proofs.Memory.{push_extends}
 use Rattle.krml_meaning.proofs.Shapes.{extends_same, extends_then, ShapeIn, shape_in, shape_on}

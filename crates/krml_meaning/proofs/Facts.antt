@@ -8,7 +8,8 @@ use Rattle.krml_syntax.specs.declared.tree.Field.{Field}
 use Rattle.krml_syntax.specs.declared.tree.Con.{Con}
 use Rattle.krml_syntax.specs.declared.tree.Def.{Def}
 use Rattle.krml_ast.specs.Names.{Struct, Sum, Constructor, Signature, type_named, con_named, table_named, fun_named}
-use Rattle.krml_ast.specs.IsType.{erased, IsFlat, IsType}
+use Rattle.krml_syntax.specs.Types.{erased}
+use Rattle.krml_ast.specs.IsType.{IsFlat, IsType}
 use Rattle.krml_ast.specs.Typing.{IsResult, HasType}
 use Rattle.krml_ast.specs.WellTyped.{names_of}
 use Rattle.krml_meaning.specs.Meaning.{Function, Table, con_place, table_from, function_named}

@@ -12,7 +12,8 @@ use Rattle.krml_syntax.specs.declared.tree.Expr.{Expr}
 use Rattle.krml_syntax.specs.declared.tree.Def.{Def}
 use Rattle.krml_syntax.specs.declared.tree.Def.TheVariants as d
 use Rattle.krml_ast.specs.Names.{Struct, Sum, Constructor, Signature, con_in, con_or, type_named, con_named, table_named, fun_named}
-use Rattle.krml_ast.specs.IsType.{erased, IsValue, IsFlat, IsType}
+use Rattle.krml_syntax.specs.Types.{erased}
+use Rattle.krml_ast.specs.IsType.{IsValue, IsFlat, IsType}
 use Rattle.krml_ast.specs.Typing.{IsResult, HasType}
 use Rattle.krml_ast.specs.WellTyped.{type_name, names_of, WellTyped, AreWellTyped}
 use Rattle.krml_ast.proofs.Earlier.{named_more, named_last}

@@ -10,9 +10,10 @@ use Rattle.krml_syntax.specs.declared.tree.Ty.TheOpen.{Ty-F}
 use Rattle.krml_syntax.specs.declared.tree.Field.{Field}
 use Rattle.krml_syntax.specs.declared.tree.Def.{Def}
 use Rattle.krml_ast.specs.Names.{Struct, type_named}
-use Rattle.krml_ast.specs.IsType.{public, erased, argument_of, type_at, is_unit_in, IsValue, HoldsBuffer, IsFlat, IsType, AreArguments}
+use Rattle.krml_syntax.specs.Types.{public, erased, argument_of, type_at, is_unit_in}
+use Rattle.krml_ast.specs.IsType.{IsValue, HoldsBuffer, IsFlat, IsType, AreArguments}
 use Rattle.krml_meaning.proofs.Lists.{map_length}
-use Rattle.krml_meaning.proofs.Types.{erased_bool, erased_unit, erased_int, erased_buf, erased_var, erased_named, at_bool, at_unit, at_int, at_buf, at_var, at_named}
+use Rattle.krml_syntax.proofs.Types.{erased_bool, erased_unit, erased_int, erased_buf, erased_var, erased_named, at_bool, at_unit, at_int, at_buf, at_var, at_named}
 
 -- a type is of one of these forms
 pub by_form : (P : Ty → Type 0) → P t.Bool → P t.Unit → ((i : IntTy) → P (t.Int i)) → ((a : Ty) → P (t.Buf a)) → ((x : List ℕ) → P (t.Var x))

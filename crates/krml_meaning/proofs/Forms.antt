@@ -16,7 +16,8 @@ use Rattle.krml_syntax.specs.declared.tree.CmpOp.{CmpOp}
 use Rattle.krml_syntax.specs.declared.tree.Def.{Def}
 use Rattle.krml_ast.specs.declared.event.SourceEvent.TheVariants as event
 use Rattle.krml_ast.specs.Names.{Struct, Signature, type_named, field_named, table_named, fun_named}
-use Rattle.krml_ast.specs.IsType.{int_ty, u32, AreArguments}
+use Rattle.krml_syntax.specs.Types.{int_ty, u32}
+use Rattle.krml_ast.specs.IsType.{AreArguments}
 use Rattle.krml_ast.specs.Typing.{Scope, look, fields_at}
 use Rattle.krml_ast.specs.Typing as typing
 use Rattle.krml_ast.specs.WellTyped.{names_of}

@@ -8,7 +8,7 @@ use Rattle.krml_syntax.specs.declared.tree.Ty.{Ty}
 use Rattle.krml_syntax.specs.declared.tree.Field.{Field}
 use Rattle.krml_syntax.specs.declared.tree.Def.{Def}
 use Rattle.krml_ast.specs.Names.{Signature, fun_named}
-use Rattle.krml_ast.specs.IsType.{erased}
+use Rattle.krml_syntax.specs.Types.{erased}
 use Rattle.krml_ast.specs.Typing.{Vars, Scope, look, fields_at, at}
 use Rattle.krml_ast.specs.WellTyped.{names_of}
 use Rattle.krml_meaning.specs.declared.value.Value.{Value}
@@ -22,7 +22,8 @@ use Rattle.krml_meaning.proofs.Lists.{same_some, no_some}
 use Rattle.krml_trace.proofs.After.{after_some}
 use Rattle.krml_trace.proofs.Levels.{within_holds}
 use Rattle.krml_meaning.proofs.Facts.{Facts}
-use Rattle.krml_meaning.proofs.Types.{erased_at, name_same}
+use Rattle.krml_syntax.proofs.Types.{erased_at}
+use Rattle.krml_meaning.proofs.Types.{name_same}
 use Rattle.krml_meaning.proofs.Shapes.{shapes_in}
 use Rattle.krml_meaning.proofs.Scopes.{Instance, here, VarsThere}
 use Rattle.krml_meaning.proofs.Forms.{CallsSound}

@@ -7,7 +7,8 @@ use Rattle.krml_syntax.specs.declared.tree.Ty.TheVariants as t
 use Rattle.krml_syntax.specs.declared.tree.Slot.{Slot}
 use Rattle.krml_syntax.specs.declared.tree.Pat.{Pat}
 use Rattle.krml_syntax.specs.declared.tree.Def.{Def}
-use Rattle.krml_ast.specs.IsType.{erased, u32, type_at, IsFlat, HoldsBuffer}
+use Rattle.krml_syntax.specs.Types.{erased, u32, type_at}
+use Rattle.krml_ast.specs.IsType.{IsFlat, HoldsBuffer}
 use Rattle.krml_ast.specs.Typing.{Vars, Scope, in_loop, in_frame, Matches}
 use Rattle.krml_ast.specs.Typing as typing
 use Rattle.krml_meaning.specs.declared.value.Value.TheVariants as v

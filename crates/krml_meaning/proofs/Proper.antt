@@ -10,7 +10,8 @@ use Rattle.krml_syntax.specs.declared.tree.Item.{Item}
 use Rattle.krml_syntax.specs.declared.tree.Slot.{Slot}
 use Rattle.krml_syntax.specs.declared.tree.Expr.{Expr}
 use Rattle.krml_syntax.specs.declared.tree.Def.{Def}
-use Rattle.krml_ast.specs.IsType.{erased, int_ty, u32, IsFlat}
+use Rattle.krml_syntax.specs.Types.{erased, int_ty, u32}
+use Rattle.krml_ast.specs.IsType.{IsFlat}
 use Rattle.krml_ast.specs.Typing.{Scope, with_vars, in_loop, in_frame, HasType, AllHaveType, ArmsHaveType, ItemsLead, CasesHaveType, fields_at}
 use Rattle.krml_ast.specs.Typing as typing
 use Rattle.krml_meaning.specs.declared.value.Value.{Value}

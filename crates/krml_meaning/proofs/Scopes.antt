@@ -4,7 +4,8 @@ use Rattle.std.specs.Str.{bytes_eq}
 use Rattle.krml_syntax.specs.declared.tree.Ty.{Ty}
 use Rattle.krml_syntax.specs.declared.tree.Slot.{Slot}
 use Rattle.krml_syntax.specs.declared.tree.Def.{Def}
-use Rattle.krml_ast.specs.IsType.{erased, type_at, AreArguments}
+use Rattle.krml_syntax.specs.Types.{erased, type_at}
+use Rattle.krml_ast.specs.IsType.{AreArguments}
 use Rattle.krml_ast.specs.Typing.{Vars, Scope, look}
 use Rattle.krml_ast.specs.Typing as typing
 use Rattle.krml_meaning.specs.declared.value.Value.{Value}
@@ -12,7 +13,7 @@ use Rattle.krml_meaning.specs.State.{Block, Variables, Env, value_of, with_vars,
 use Rattle.krml_meaning.specs.Shape.{Open, HasShape, Extends}
 use Rattle.krml_meaning.proofs.Lists.{same_some, no_some, get_right}
 use Rattle.krml_meaning.proofs.Shapes.{shape_on}
-use Rattle.krml_meaning.proofs.Types.{erased_at}
+use Rattle.krml_syntax.proofs.Types.{erased_at}
 
 -- A function's type variables, and closed types for them.
 pub record Instance (defs : List Def) : Type 0 where

@@ -14,7 +14,8 @@ use Rattle.krml_syntax.specs.declared.tree.Item.{Item}
 use Rattle.krml_syntax.specs.declared.tree.Expr.{Expr}
 use Rattle.krml_syntax.specs.declared.tree.Def.{Def}
 use Rattle.krml_ast.specs.Names.{Constructor, field_named}
-use Rattle.krml_ast.specs.IsType.{erased, int_ty, u32, type_at, IsFlat, IsType, AreArguments}
+use Rattle.krml_syntax.specs.Types.{erased, int_ty, u32, type_at}
+use Rattle.krml_ast.specs.IsType.{IsFlat, IsType, AreArguments}
 use Rattle.krml_ast.specs.Typing.{Scope, with_vars, in_loop, in_frame, fields_at, at, HasType, AllHaveType, ArmsHaveType, ItemsLead, CasesHaveType}
 use Rattle.krml_meaning.specs.declared.value.Value.TheVariants as v
 use Rattle.krml_meaning.specs.State.{Block, Env, Sem, Numbered, closed}
@@ -22,7 +23,7 @@ use Rattle.krml_meaning.specs.Meaning as src
 use Rattle.krml_meaning.specs.Shape.{HasShape}
 use Rattle.krml_meaning.proofs.Lists.{map_length, each_so, each_get, same_some, no_some}
 use Rattle.krml_meaning.proofs.Facts.{Facts, InSum}
-use Rattle.krml_meaning.proofs.Types.{at_none}
+use Rattle.krml_syntax.proofs.Types.{at_none}
 use Rattle.krml_meaning.proofs.Closing.{close, close_written, close_bool, close_unit, close_int, close_buf, close_named, close_at, close_at_written, close_at_passed, all_are, fields_are, arguments_passed, arguments_written, result_closed}
 use Rattle.krml_meaning.proofs.Scopes.{Instance}
 use Rattle.krml_meaning.proofs.Forms.{CallsSound, var_sound, just_sound, binary_sound, shift_sound, compare_sound, opposite_sound, cast_sound, hide_sound, make_sound, get_sound, tab_sound, choose_sound, call_sound, while_sound}
@@ -84,7 +85,7 @@ module _ (defs : List Def) (facts : Facts defs) (at_args : Instance defs) (calls
   -- the value of a part where it is of another constructor
   zero_at : (c : Constructor) (args : List Ty) (b : Ty) → c.vars ≡ [] → IsType defs c.vars b → HasZero defs b → ZeroAt defs c.vars args b
   zero_at c args b none ok z =
-      let same : at c.vars args b ≡ erased b = ap (λ vs. at vs args b) none ∙ ap erased (at_none defs args b (subst (λ vs. IsType defs vs b) none ok)) in
+      let same : at c.vars args b ≡ erased b = ap (λ vs. at vs args b) none ∙ ap erased (at_none args b) in
       record { zero = z.zero; is = z.is; shape = subst (HasShape defs [] z.zero) (sym same) z.shape }
 
   -- a part of a list

@@ -11,7 +11,8 @@ use Rattle.krml_syntax.specs.declared.tree.Con.{Con}
 use Rattle.krml_syntax.specs.declared.tree.Def.{Def}
 use Rattle.krml_syntax.specs.declared.tree.Def.TheVariants as d
 use Rattle.krml_ast.specs.Names.{Composite, Struct, Sum, vars_of, type_named}
-use Rattle.krml_ast.specs.IsType.{erased, type_at, HoldsBuffer, IsFlat, IsType, AreArguments}
+use Rattle.krml_syntax.specs.Types.{erased, type_at}
+use Rattle.krml_ast.specs.IsType.{HoldsBuffer, IsFlat, IsType, AreArguments}
 use Rattle.krml_ast.specs.Typing.{at, fields_at}
 use Rattle.krml_ast.specs.WellTyped.{names_of, WellTyped, AreWellTyped}
 use Rattle.krml_ast.specs.FileTypes.{HasSize, listed_vars}
@@ -21,7 +22,7 @@ use Rattle.krml_meaning.specs.declared.value.Value.TheVariants as v
 use Rattle.krml_meaning.specs.Meaning.{all_some, zero_of, zero_in, zero_within}
 use Rattle.krml_meaning.specs.Shape.{HasShape, AllHaveShape}
 use Rattle.krml_meaning.proofs.Lists.{same_some, no_some, each_so, each_among, each_contains}
-use Rattle.krml_meaning.proofs.Types.{erased_bool, erased_unit, erased_int, erased_named, at_none}
+use Rattle.krml_syntax.proofs.Types.{erased_bool, erased_unit, erased_int, erased_named, at_none}
 use Rattle.krml_meaning.proofs.Earlier.{Settled, none_settled, flat_more}
 use Rattle.krml_meaning.proofs.Files.{through, new_fields, new_cons, settled_more}
 use Rattle.krml_meaning.proofs.Proper.{HasZero}
@@ -91,7 +92,7 @@ module _ (defs : List Def) where
     part_zero : (b : Ty) → IsType before [] b → (HoldsBuffer defs b → ⊥) → (x : Value) × (zero_within (suc n) defs (type_at [] [] b) ≡ Some x) × HasShape defs [] x (at [] [] b)
     part_zero b ok none =
         let z = zeros b ok none n le in
-        let same = at_none before [] b ok in
+        let same = at_none [] b in
         (z.zero, ap (zero_within (suc n) defs) same ∙ z.is, subst (λ w. HasShape defs [] z.zero (erased w)) (sym same) z.shape)
 
     fields_zero : (fields : List Field) → AllByRecursion (λ f. IsType before [] f.ty × (HoldsBuffer defs f.ty → ⊥)) fields

@@ -45,7 +45,7 @@ use Rattle.krml_meaning.specs.declared.value.Value.TheOpen.{Value-F}
 use Rattle.krml_meaning.specs.declared.value.Value.TheVariants as v
 use Rattle.krml_ast.specs.declared.run.SourceRun.{SourceRun}
 use Rattle.krml_ast.specs.Names.{Composite, Struct, Sum, type_named}
-use Rattle.krml_ast.specs.IsType.{type_at}
+use Rattle.krml_syntax.specs.Types.{type_at}
 use Rattle.krml_meaning.specs.State.{Block, SourceState, SourceRan, Variables, Env, value_of, with_vars, closed, closed_slot, Sem, as_number, as_truth, as_buffer, as_struct, as_con, Numbered, none, one, two, three, many, put, fresh, close_from}
 
 -- ---- numbers

@@ -11,7 +11,7 @@ use Rattle.krml_syntax.specs.declared.tree.Slot.{Slot}
 use Rattle.krml_ast.specs.declared.event.SourceEvent.{SourceEvent}
 use Rattle.krml_meaning.specs.declared.value.Value.{Value, out-Value}
 use Rattle.krml_meaning.specs.declared.value.Value.TheOpen.{Value-F}
-use Rattle.krml_ast.specs.IsType.{type_at}
+use Rattle.krml_syntax.specs.Types.{type_at}
 
 -- A block of memory: the type and the number of its elements, whether its frame is open, and the elements that have a
 -- value, from the first on. Only a block that is being filled has fewer than its number.

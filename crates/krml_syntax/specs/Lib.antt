@@ -4,3 +4,4 @@ pub mod Name
 pub mod Number
 pub mod Read
 pub mod Spelling
+pub mod Types

@@ -7,10 +7,10 @@ use Rattle.krml_syntax.specs.declared.tree.Ty.TheVariants as t
 use Rattle.krml_syntax.specs.declared.tree.Field.{Field}
 use Rattle.krml_syntax.specs.declared.tree.Expr.TheVariants as e
 use Rattle.krml_syntax.specs.declared.tree.Def.{Def}
-use Rattle.krml_ast.specs.IsType.{public}
+use Rattle.krml_syntax.specs.Types.{public}
 use Rattle.krml_ast.specs.Typing.{look, HasType}
 use Rattle.krml_ast.specs.Labelled.{vars_of_fields, erased_vars, IsTypedIn}
-use Rattle.krml_ast.proofs.LabelledTypes.{erased_int}
+use Rattle.krml_syntax.proofs.Types.{erased_int}
 
 abbrev pub int_field : List ℕ → IntTy → Field
 int_field x i = record { name = x; ty = t.Int i }

@@ -9,7 +9,7 @@ use Rattle.krml_syntax.specs.declared.tree.Expr.TheFolds.{fold_out-Arm}
 use Rattle.krml_syntax.specs.declared.tree.Def.{Def}
 use Rattle.krml_syntax.specs.Read.{◌>>=◌}
 use Rattle.krml_ast.specs.Typing.{Vars, Scope, with_vars}
-use Rattle.krml_ast.specs.Vars.{are_distinct}
+use Rattle.krml_intern.specs.Scope.{are_distinct}
 use Rattle.krml_intern.specs.Table.{Table}
 use Rattle.krml_types.specs.declared.untyped.Untyped.{Untyped}
 use Rattle.krml_types.specs.declared.untyped.Untyped.TheVariants.{Fault, NoMemory}

@@ -10,7 +10,7 @@ use Rattle.krml_syntax.specs.declared.tree.Expr.TheFolds.{fold_out-Item, map-Ite
 use Rattle.krml_syntax.specs.declared.tree.Ty.{Ty}
 use Rattle.krml_syntax.specs.declared.tree.Ty.TheVariants as t
 use Rattle.krml_syntax.specs.declared.tree.Def.{Def}
-use Rattle.krml_ast.specs.IsType.{erased}
+use Rattle.krml_syntax.specs.Types.{erased}
 use Rattle.krml_ast.specs.Typing.{Vars, Scope, with_vars}
 use Rattle.krml_syntax.proofs.Only.{Only, only_some, only_then, only_more}
 use Rattle.krml_types.specs.Types.{is_type}
@@ -43,9 +43,3 @@ module _ (defs : List Def) (tvars : List (List ℕ)) where
   items_cut items g h q =
       let e = (items_extend items g).holds h q in
       ap (λ z. cut_scope (length g.vars) z) e.1 ∙ cut_back e.0 g
-
-  -- a case more
-  pub cases_more : (cases : List Case) (i : ℕ) (x : Case) (g h : Scope) (found : Option Ty) (a r : Ty) → i < length cases → x ≡ get_or cases i x
-      → case_of defs tvars x g ≡ Some a → joined found a ≡ Some r → h ≡ g
-      → cases_from (map (case_of defs tvars) (drop i cases)) g found ≡ cases_from (map (case_of defs tvars) (drop (i + 1) cases)) h (Some r)
-  cases_more cases i x g h found a r within x_is a_is r_is same = rw (drop_more cases i x within, ← x_is, a_is, r_is, same) refl

@@ -18,7 +18,8 @@ use Rattle.krml_syntax.specs.declared.tree.Ty.TheVariants as t
 use Rattle.krml_syntax.specs.declared.tree.Def.{Def}
 use Rattle.krml_ast.specs.Names.{Composite, type_named, vars_of}
 use Rattle.krml_ast.specs.Places.{is_among}
-use Rattle.krml_ast.specs.IsType.{is_unit_in, IsFlat, IsType, AreArguments}
+use Rattle.krml_syntax.specs.Types.{is_unit_in}
+use Rattle.krml_ast.specs.IsType.{IsFlat, IsType, AreArguments}
 use Rattle.krml_types.specs.Holds.{same_bool, holds_by, holders}
 use Rattle.krml_types.specs.Parts.{is_value}
 use Rattle.krml_types.specs.Types.{same_int, all_same, same_in, ty_same, same_ty, is_flat, takes, all_serve, is_type_in, is_type_by, are_arguments_by, is_type, are_arguments}

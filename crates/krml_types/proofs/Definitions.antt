@@ -16,7 +16,8 @@ use Rattle.krml_syntax.specs.declared.tree.Expr.{Expr}
 use Rattle.krml_syntax.specs.declared.tree.Def.{Def}
 use Rattle.krml_syntax.specs.declared.tree.Def.TheVariants as d
 use Rattle.krml_ast.specs.Names.{Signature, fun_named, type_named}
-use Rattle.krml_ast.specs.IsType.{erased, is_unit_in, IsValue, IsFlat, IsType}
+use Rattle.krml_syntax.specs.Types.{erased, is_unit_in}
+use Rattle.krml_ast.specs.IsType.{IsValue, IsFlat, IsType}
 use Rattle.krml_ast.specs.Typing.{IsResult, HasType}
 use Rattle.krml_ast.specs.WellTyped.{type_name, con_names, table_name, fun_name, entry_name, AreNew, names_of, IsOutside, IsAnswer, WellTyped}
 use Rattle.krml_syntax.proofs.Only.{Only}

@@ -19,9 +19,9 @@ use Rattle.krml_syntax.specs.declared.tree.Expr.TheFolds.{fold_out-Expr, fold_ou
 use Rattle.krml_syntax.specs.declared.tree.Expr.TheVariants as e
 use Rattle.krml_syntax.specs.declared.tree.Def.{Def}
 use Rattle.krml_ast.specs.Names.{table_named}
-use Rattle.krml_ast.specs.IsType.{erased, int_ty, u32, is_unit_in}
+use Rattle.krml_syntax.specs.Types.{erased, int_ty, u32, is_unit_in}
 use Rattle.krml_ast.specs.Typing.{Scope, with_vars, in_loop, in_frame, at, fields_at, IsResult, Matches, HasType, AllHaveType, ArmsHaveType, ItemsLead, CasesHaveType}
-use Rattle.krml_ast.specs.Vars.{are_distinct}
+use Rattle.krml_intern.specs.Scope.{are_distinct}
 use Rattle.krml_syntax.proofs.Only.{Only, only_none, only_some, only_then, only_more}
 use Rattle.krml_types.specs.Types.{same_ty, is_flat, is_type}
 use Rattle.krml_types.specs.Instances.{Instance}

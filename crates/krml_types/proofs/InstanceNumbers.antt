@@ -19,11 +19,12 @@ use Rattle.krml_syntax.specs.declared.tree.Pat.TheFolds.{fold_out-Pat}
 use Rattle.krml_syntax.specs.declared.tree.Pat.TheVariants as p
 use Rattle.krml_syntax.specs.Read.{◌>>=◌}
 use Rattle.krml_ast.specs.Names.{Constructor, Signature, struct_named, con_named, fun_named, field_named}
-use Rattle.krml_ast.specs.IsType.{erased}
+use Rattle.krml_syntax.specs.Types.{erased}
 use Rattle.krml_ast.specs.Typing.{Vars, at, fields_at}
 use Rattle.krml_intern.specs.Table.{Table, Grows, head_of}
 use Rattle.krml_intern.specs.Unlabelled.{IsErased}
-use Rattle.krml_intern.proofs.Erasing.{erased_before, is_erased_still}
+use Rattle.krml_syntax.proofs.Types.{at_erased}
+use Rattle.krml_intern.proofs.Erasing.{is_erased_still}
 use Rattle.krml_types.specs.declared.component.Component.{Component}
 use Rattle.krml_types.specs.declared.component.Component.TheVariants as comp
 use Rattle.krml_types.specs.declared.untyped.Untyped.{Untyped}
@@ -36,6 +37,7 @@ use Rattle.krml_types.specs.Patterns.{binds, parts_bind}
 use Rattle.krml_types.specs.Types.{same_ty}
 use Rattle.krml_types.proofs.Decided.{same_decides}
 use Rattle.krml_types.proofs.Parts.{args_again}
+use Rattle.krml_types.proofs.Steps.{drop_all}
 
 -- ---- numbers
 
@@ -86,7 +88,7 @@ listed {A} vars args more f same xs j = go (slice_get xs j) ∙ sym (slice_get-m
 
 -- labels of type arguments may be erased before
 once : (vars : List (List ℕ)) (args : List Ty) (a : Ty) → at vars (map erased args) a ≡ at vars args a
-once vars args a = sym (erased_before vars args a)
+once vars args a = sym (at_erased vars args a)
 
 module _ (defs : List Def) (x : List ℕ) (args more : List Ty) (same : (vars : List (List ℕ)) (a : Ty) → at vars args a ≡ at vars more a) where
   fields_listed : (vars : List (List ℕ)) (fields : List Field) → struct_named defs x ≡ Some (vars, fields) → (j : ℕ)
@@ -406,20 +408,13 @@ still_bound old mid new vars u k a q v place e some =
     let b : Binds (Ok v) (binds old.defs q a vars) (with_bound old vars) new = subst (λ (m : Place). Binds (Ok v) (binds m.defs q a m.scope.vars) m new) place (some a e) in
     b.2 ∙ ap (λ vs. with_bound old vs) (sym (ap (λ (m : Place). m.scope.vars) b.2))
 
-pub grows_then : (s t u : Table) → Grows s t → Grows t u → Grows s u
-grows_then s t u g h = record { names = λ k x m. h.names k x (g.names k x m); types = λ k a m. h.types k a (g.types k a m) }
-
 -- no pattern is left
 last_binds : (defs : List Def) (qs : List Pat) (types : List Ty) (vars : Vars) (one : Bool) (r : Result (Unit {0}) Untyped) (old : Place) → one ≡ is_none (slice_get types (length qs))
     → Gives r (demand one) → Binds r (parts_bind (map (binds defs) (drop (length qs) qs)) (drop (length qs) types) vars) old (with_bound old vars)
 last_binds defs qs types vars one r old is gives =
-    subst (λ o. Binds r o old (with_bound old vars)) (sym (ap (λ ps. parts_bind (map (binds defs) ps) (drop (length qs) types) vars) (none_left qs)
+    subst (λ o. Binds r o old (with_bound old vars)) (sym (ap (λ ps. parts_bind (map (binds defs) ps) (drop (length qs) types) vars) (drop_all qs)
     ∙ ap (λ ts. parts_bind [] ts vars) (left_is types (length qs)))) (go (slice_get types (length qs)) r (subst (λ b. Gives r (demand b)) is gives))
   where
-    none_left : {A : Type 0} (xs : List A) → drop (length xs) xs ≡ []
-    none_left [] = refl
-    none_left (x ∷ xs) = none_left xs
-
     go : (o : Option Ty) (r : Result (Unit {0}) Untyped) → Gives r (demand (is_none o)) → Binds r (parts_bind [] (left_by o (drop (length qs + 1) types)) vars) old (with_bound old vars)
     go None (Ok u) g = (vars, refl, refl)
     go None (Err Fault) g = absurd (cc)

@@ -13,7 +13,7 @@ use Rattle.krml_syntax.specs.declared.tree.Expr.TheVariants as e
 use Rattle.krml_syntax.specs.declared.tree.Def.{Def}
 use Rattle.krml_ast.specs.Names.{Composite, Struct, Sum, Constructor, Signature, type_named, struct_of, struct_named, con_named, fun_named, field_named}
 use Rattle.krml_ast.specs.IsType.{AreArguments}
-use Rattle.krml_ast.specs.TypeParts.{name_of}
+use Rattle.krml_syntax.specs.Types.{name_of}
 use Rattle.krml_ast.specs.Typing.{Vars, Scope, at, fields_at, Matches, MatchAll, HasType, AllHaveType}
 use Rattle.krml_syntax.proofs.Only.{Only, only_none, only_some, only_then}
 use Rattle.krml_types.specs.Types.{are_arguments}

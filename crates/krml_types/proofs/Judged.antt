@@ -16,11 +16,9 @@ use Rattle.krml_syntax.specs.declared.tree.Ty.TheOpen.{Ty-F}
 use Rattle.krml_syntax.specs.declared.tree.Ty.TheFolds.{fold_out-Ty}
 use Rattle.krml_syntax.specs.declared.tree.Slot.{Slot}
 use Rattle.krml_syntax.specs.declared.tree.Def.{Def}
-use Rattle.krml_ast.specs.IsType.{erased, level_erased}
-use Rattle.krml_ast.specs.Typing.{look}
-use Rattle.krml_ast.specs.Vars.{cut, is_new, are_distinct}
+use Rattle.krml_syntax.specs.Types.{erased, level_erased}
 use Rattle.krml_intern.specs.Exact.{key_cmp}
-use Rattle.krml_intern.specs.Scope.{look as look_number, cut as cut_numbers, is_new as is_new_number, are_distinct as are_distinct_numbers}
+use Rattle.krml_intern.specs.Scope.{look, cut, is_new, are_distinct}
 use Rattle.krml_intern.specs.Table.{Table, Means, Grows}
 use Rattle.krml_intern.specs.Unlabelled.{IsErased}
 use Rattle.krml_intern.proofs.Erasing.{is_erased_still, one_meaning}
@@ -30,12 +28,6 @@ use Rattle.krml_types.specs.Instances.{part_at}
 use Rattle.krml_types.specs.Judging.{Place, typed, GivesNumber, IsNumberOf, IsKnown, IsAt, code_of, IsFound, IsJudge}
 
 -- ---- numbers
-
-pub known_still : (s t : Table) → Grows s t → (k : ℕ) → IsKnown s k → IsKnown t k
-known_still s t g k e = record { type = e.type; is = is_erased_still s t g k e.type e.is }
-
-pub at_still : (s t : Table) → Grows s t → (k : ℕ) → IsAt s k → IsAt t k
-at_still s t g k e = record { name = e.name; args = e.args; is = is_erased_still s t g k (ty.Named e.name e.args) e.is }
 
 abbrev name_in : Ty-F Ty → List ℕ
 name_in (Ty-F.Named x args) = x
@@ -68,16 +60,13 @@ pub scope_still : (s t : Table) → Grows s t → (vs : List (List ℕ × ℕ)) 
 scope_still s t g [] all = tt
 scope_still s t g (v ∷ vs) all = ((all.0.0, is_erased_still s t g v.1 all.0.0 all.0.1), scope_still s t g vs all.1)
 
-pub looked_up : (t : Table) (vs : List (List ℕ × ℕ)) (x : List ℕ) → AreTyped t vs → IsNumberOf t (look_number vs x) (look (typed t vs) x)
+pub looked_up : (t : Table) (vs : List (List ℕ × ℕ)) (x : List ℕ) → AreTyped t vs → IsNumberOf t (look vs x) (look (typed t vs) x)
 looked_up t [] x all = refl
 looked_up t (v ∷ vs) x all = go (looked_up t vs x all.1) (bytes_eq v.0 x)
   where
-    go : IsNumberOf t (look_number vs x) (look (typed t vs) x) → (b : Bool) → IsNumberOf t (if b then Some v.1 else look_number vs x) (if b then Some (get_or t.types v.1 ty.Unit) else look (typed t vs) x)
+    go : IsNumberOf t (look vs x) (look (typed t vs) x) → (b : Bool) → IsNumberOf t (if b then Some v.1 else look vs x) (if b then Some (get_or t.types v.1 ty.Unit) else look (typed t vs) x)
     go later true = (all.0.0, ap Some (get_or_from_slice_get t.types v.1 all.0.0 ty.Unit all.0.1.means), all.0.1)
     go later false = later
-
-pub typed_push : (t : Table) (vs : List (List ℕ × ℕ)) (x : List ℕ) (k : ℕ) (a : Ty) → Means t k a → typed t ((x, k) ∷ vs) ≡ (x, a) ∷ typed t vs
-typed_push t vs x k a m = ap (λ b. (x, b) ∷ typed t vs) (get_or_from_slice_get t.types k a ty.Unit m)
 
 drop_map : {A B : Type 0} (f : A → B) (n : ℕ) (xs : List A) → map f (drop n xs) ≡ drop n (map f xs)
 drop_map f zero xs = refl
@@ -89,32 +78,24 @@ take_map f zero xs = refl
 take_map f (suc n) [] = refl
 take_map f (suc n) (x ∷ xs) = ap (λ ys. f x ∷ ys) (take_map f n xs)
 
-all_drop : {A : Type 0} (P : A → Type 0) (n : ℕ) (xs : List A) → AllByRecursion P xs → AllByRecursion P (drop n xs)
-all_drop P zero xs all = all
-all_drop P (suc n) [] all = tt
-all_drop P (suc n) (x ∷ xs) all = all_drop P n xs all.1
-
 abbrev one_typed : Table → List ℕ × ℕ → List ℕ × Ty
 one_typed t v = (v.0, get_or t.types v.1 ty.Unit)
 
 pub typed_length : (t : Table) (vs : List (List ℕ × ℕ)) → length (typed t vs) ≡ length vs
 typed_length t vs = length-map vs (one_typed t)
 
-pub typed_cut : (t : Table) (n : ℕ) (vs : List (List ℕ × ℕ)) → typed t (cut_numbers n vs) ≡ cut n (typed t vs)
+pub typed_cut : (t : Table) (n : ℕ) (vs : List (List ℕ × ℕ)) → typed t (cut n vs) ≡ cut n (typed t vs)
 typed_cut t n vs = drop_map (one_typed t) (length vs - n) vs ∙ ap (λ m. drop (m - n) (typed t vs)) (sym (typed_length t vs))
 
-pub scope_cut : (t : Table) (n : ℕ) (vs : List (List ℕ × ℕ)) → AreTyped t vs → AreTyped t (cut_numbers n vs)
-scope_cut t n vs all = all_drop (λ (v : List ℕ × ℕ). (a : Ty) × IsErased t v.1 a) (length vs - n) vs all
-
-new_typed : (t : Table) (vs : List (List ℕ × ℕ)) (x : List ℕ) → is_new (typed t vs) x ≡ is_new_number vs x
+new_typed : (t : Table) (vs : List (List ℕ × ℕ)) (x : List ℕ) → is_new (typed t vs) x ≡ is_new vs x
 new_typed t [] x = refl
 new_typed t (v ∷ vs) x = rw (new_typed t vs x) refl
 
-distinct_typed : (t : Table) (vs : List (List ℕ × ℕ)) → are_distinct (typed t vs) ≡ are_distinct_numbers vs
+distinct_typed : (t : Table) (vs : List (List ℕ × ℕ)) → are_distinct (typed t vs) ≡ are_distinct vs
 distinct_typed t [] = refl
 distinct_typed t (v ∷ vs) = rw (new_typed t vs v.0, distinct_typed t vs) refl
 
-pub distinct_newest : (t : Table) (vs : List (List ℕ × ℕ)) (n : ℕ) → are_distinct_numbers (take (length vs - n) vs) ≡ are_distinct (take (length (typed t vs) - n) (typed t vs))
+pub distinct_newest : (t : Table) (vs : List (List ℕ × ℕ)) (n : ℕ) → are_distinct (take (length vs - n) vs) ≡ are_distinct (take (length (typed t vs) - n) (typed t vs))
 distinct_newest t vs n =
     sym (distinct_typed t (take (length vs - n) vs)) ∙ ap are_distinct (take_map (one_typed t) (length vs - n) vs)
     ∙ ap (λ m. are_distinct (take (m - n) (typed t vs))) (sym (typed_length t vs))
@@ -193,11 +174,3 @@ seen_at defs tvars t vs frame = record { defs = defs; tvars = tvars; scope = rec
 pub place_still : (defs : List Def) (tvars : List (List ℕ)) (s t : Table) (cs : BTreeMap (ℕ × (ℕ × ℕ)) ℕ) (vs : List (List ℕ × ℕ)) (frame : Option (Bor (List Slot))) → Grows s t → IsJudge defs s cs vs
     → seen_at defs tvars t vs frame ≡ seen_at defs tvars s vs frame
 place_still defs tvars s t cs vs frame g ok = ap (λ vars. record { defs = defs; tvars = tvars; scope = record { vars = vars; frame = option_copied frame } }) (typed_still s t g vs ok.scope)
-
--- ---- types without labels
-
-pub bool_plain : erased ty.Bool ≡ ty.Bool
-bool_plain = rw (fold_out-Ty Ty level_erased ty.Bool, ty.outs-Bool) refl
-
-pub unit_plain : erased ty.Unit ≡ ty.Unit
-unit_plain = rw (fold_out-Ty Ty level_erased ty.Unit, ty.outs-Unit) refl

@@ -8,8 +8,7 @@ use Rattle.krml_syntax.specs.declared.tree.Ty.TheVariants as ty
 use Rattle.krml_syntax.specs.declared.tree.Ty.TheOpen.{Ty-F}
 use Rattle.krml_syntax.specs.declared.tree.Def.{Def}
 use Rattle.krml_syntax.specs.Read.{◌>>=◌}
-use Rattle.krml_ast.specs.IsType.{erased, type_at, is_unit_in}
-use Rattle.krml_ast.specs.TypeParts.{element_of}
+use Rattle.krml_syntax.specs.Types.{erased, type_at, is_unit_in, element_of}
 use Rattle.krml_ast.specs.Typing.{at}
 use Rattle.krml_intern.specs.Exact.{key_cmp}
 use Rattle.krml_intern.specs.Unlabelled.{IsErased}

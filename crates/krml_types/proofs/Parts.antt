@@ -9,10 +9,10 @@ use Rattle.std.proofs.lemmas.Slice.Eq.{bytes_eq-Decides}
 use Rattle.krml_syntax.specs.declared.tree.Ty.{Ty, out-Ty, roll-Ty, roll-out-Ty}
 use Rattle.krml_syntax.specs.declared.tree.Ty.TheOpen.{Ty-F}
 use Rattle.krml_syntax.specs.declared.tree.Ty.TheVariants as t
-use Rattle.krml_ast.specs.IsType.{is_unit_in, IsValue}
-use Rattle.krml_ast.specs.TypeParts.{element_of, name_of}
+use Rattle.krml_syntax.specs.Types.{is_unit_in, element_of, name_of}
+use Rattle.krml_ast.specs.IsType.{IsValue}
 use Rattle.krml_ast.specs.Typing.{Vars, AreDistinct}
-use Rattle.krml_ast.specs.Vars.{is_new, are_distinct}
+use Rattle.krml_intern.specs.Scope.{is_new, are_distinct}
 use Rattle.krml_syntax.specs.Read.{◌>>=◌}
 use Rattle.krml_syntax.proofs.Only.{Only, only_none, only_some}
 use Rattle.krml_types.specs.Types.{same_ty}

@@ -11,7 +11,7 @@ use Rattle.krml_syntax.specs.declared.tree.Pat.TheOpen.{Pat-F}
 use Rattle.krml_syntax.specs.declared.tree.Pat.TheFolds.{fold_out-Pat, ind-Pat}
 use Rattle.krml_syntax.specs.declared.tree.Pat.TheVariants as p
 use Rattle.krml_syntax.specs.declared.tree.Def.{Def}
-use Rattle.krml_ast.specs.IsType.{int_ty}
+use Rattle.krml_syntax.specs.Types.{int_ty}
 use Rattle.krml_ast.specs.Typing.{Vars, Matches, MatchAll, at, fields_at}
 use Rattle.krml_syntax.proofs.Only.{Only, only_none, only_some, only_then, only_more}
 use Rattle.krml_types.specs.Types.{same_ty}

@@ -1,6 +1,6 @@
 -- Steps of the checker, where types are known by number.
 use Prim.Native.Nat.{zero, suc}
-use Rattle.std.proofs.Common.{◌≡◌, ℕ, ◌+◌, ◌<◌, Bool, true, false, List, [], ◌∷◌, length, drop, map, get_or, slice_get, Option, Some, None, Result, Ok, Err, OnOk, refl, sym, ap, subst, ◌∙◌}
+use Rattle.std.proofs.Common.{◌≡◌, ℕ, ◌+◌, ◌<◌, Bool, true, false, List, [], ◌∷◌, length, drop, map, get_or, slice_get, Option, Some, None, Result, Ok, Err, refl, sym, ap, subst, ◌∙◌}
 use Rattle.std.specs.Bool.{Decides}
 use Rattle.std.proofs.lemmas.List.{drop_more}
 use Rattle.std.proofs.lemmas.Option.{slice_get_within, get_or_from_slice_get}
@@ -9,7 +9,7 @@ use Rattle.krml_syntax.specs.declared.tree.Ty.TheOpen.{Ty-F}
 use Rattle.krml_syntax.specs.declared.tree.Ty.TheVariants as ty
 use Rattle.krml_syntax.specs.declared.tree.Def.{Def}
 use Rattle.krml_syntax.specs.Read.{◌>>=◌}
-use Rattle.krml_ast.specs.IsType.{is_unit_in}
+use Rattle.krml_syntax.specs.Types.{is_unit_in}
 use Rattle.krml_ast.specs.Typing.{Scope}
 use Rattle.krml_intern.specs.Table.{Table, Grows}
 use Rattle.krml_intern.specs.Unlabelled.{IsErased}
@@ -58,9 +58,6 @@ fails t o f r q NoMemory g r_is q_is = subst (λ x. GivesNumber t x (o >>= f)) (
 
 -- ---- components
 
-pub parts_still : (s t : Table) → Grows s t → (defs : List Def) (kind : Component) (k : ℕ) (types : List Ty) → AreParts s defs kind k types → AreParts t defs kind k types
-parts_still s t g defs kind k types all = record { name = all.name; args = all.args; is = is_erased_still s t g k (ty.Named all.name all.args) all.is; each = all.each }
-
 pub get_drop : (types : List Ty) (j : ℕ) (b : Ty) → slice_get types j ≡ Some b → drop j types ≡ b ∷ drop (j + 1) types
 get_drop types j b is = drop_more types j b (slice_get_within types j b is) ∙ ap (λ x. x ∷ drop (j + 1) types) (get_or_from_slice_get types j b b is)
 
@@ -69,9 +66,6 @@ none_drop [] zero is = refl
 none_drop [] (suc j) is = refl
 none_drop (b ∷ types) zero is = absurd (cc)
 none_drop (b ∷ types) (suc j) is = none_drop types j is
-
-pub some_drop : (types : List Ty) (j : ℕ) (b : Ty) → slice_get types j ≡ Some b → drop j types ≡ [] → ⊥
-some_drop types j b is none = let one : b ∷ drop (j + 1) types ≡ [] = sym (get_drop types j b is) ∙ none in absurd (cc)
 
 module _ {X : Type 0} (f : X → Comp) (es : List X) (types : List Ty) (g : Scope) (j : ℕ) (e : X) (within : j < length es) (e_is : e ≡ get_or es j e) where
   head : drop j es ≡ e ∷ drop (j + 1) es
@@ -125,6 +119,14 @@ handed_on t r q NoMemory o x g r_is q_is none = subst (λ z. Gives z x) (sym q_i
 pub handed : (r q : Result (Unit {0}) Untyped) (e : Untyped) (o x : Option (Unit {0})) → Gives r o → r ≡ Err e → q ≡ Err e → (o ≡ None → x ≡ None) → Gives q x
 handed r q Fault o x g r_is q_is none = subst (λ z. Gives z x) (sym q_is) (none (subst (λ z. Gives z o) r_is g))
 handed r q NoMemory o x g r_is q_is none = subst (λ z. Gives z x) (sym q_is) tt
+
+pub unmet_number : (t : Table) (r : Result (Unit {0}) Untyped) (q : Result ℕ Untyped) (e : Untyped) (o : Option (Unit {0})) (x : Option Ty) → Gives r o → r ≡ Err e → q ≡ Err e → (o ≡ None → x ≡ None) → GivesNumber t q x
+unmet_number t r q Fault o x g r_is q_is none = subst (λ z. GivesNumber t z x) (sym q_is) (none (subst (λ z. Gives z o) r_is g))
+unmet_number t r q NoMemory o x g r_is q_is none = subst (λ z. GivesNumber t z x) (sym q_is) tt
+
+-- what is given stays under an equal option
+pub seen_as : (t : Table) (r : Result ℕ Untyped) (o x : Option Ty) → o ≡ x → GivesNumber t r x → GivesNumber t r o
+seen_as t r o x is g = subst (λ z. GivesNumber t r z) (sym is) g
 
 pub handed_number : (s t : Table) (r q : Result ℕ Untyped) (e : Untyped) (o x : Option Ty) → GivesNumber s r o → r ≡ Err e → q ≡ Err e → (o ≡ None → x ≡ None) → GivesNumber t q x
 handed_number s t r q Fault o x g r_is q_is none = subst (λ z. GivesNumber t z x) (sym q_is) (none (subst (λ z. GivesNumber s z o) r_is g))
@@ -186,10 +188,6 @@ module _ {X : Type 0} (f : X → ItemComp) (xs : List X) (g : Scope) (i : ℕ) (
 pub unled : (r q : Result (Unit {0}) Untyped) (e : Untyped) (o x : Option Scope) (old new before after : Place) → Leads r o old new → r ≡ Err e → q ≡ Err e → (o ≡ None → x ≡ None) → Leads q x before after
 unled r q Fault o x old new before after l r_is q_is none = subst (λ z. Leads z x before after) (sym q_is) (none (subst (λ z. Leads z o old new) r_is l))
 unled r q NoMemory o x old new before after l r_is q_is none = subst (λ z. Leads z x before after) (sym q_is) tt
-
-pub on_ok : {A E P Q : Type 0} (r : Result A E) → OnOk r P → (P → Q) → OnOk r Q
-on_ok (Ok a) h f = f h
-on_ok (Err e) h f = tt
 
 -- the body of a function has the type of its result
 pub body_by : (o : Option Ty) (a r b : Ty) (s : Bool) (q : Result (Unit {0}) Untyped) → o ≡ Some a → Some r ≡ Some b → Decides s (a ≡ b) → Gives q (demand s) → Gives q (demand (is_of o r))

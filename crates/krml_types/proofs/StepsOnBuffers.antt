@@ -9,8 +9,7 @@ use Rattle.krml_syntax.specs.declared.tree.Slot.{Slot}
 use Rattle.krml_syntax.specs.declared.tree.Expr.{Expr}
 use Rattle.krml_syntax.specs.declared.tree.Expr.TheVariants as e
 use Rattle.krml_syntax.specs.Read.{◌>>=◌}
-use Rattle.krml_ast.specs.IsType.{erased, int_ty, u32}
-use Rattle.krml_ast.specs.TypeParts.{element_of}
+use Rattle.krml_syntax.specs.Types.{erased, int_ty, u32, element_of}
 use Rattle.krml_ast.specs.Typing.{in_frame}
 use Rattle.krml_intern.specs.Table.{Table}
 use Rattle.krml_types.specs.declared.untyped.Untyped.{Untyped}
@@ -22,16 +21,7 @@ use Rattle.krml_types.specs.Parts.{demand}
 use Rattle.krml_types.specs.Scopes.{is_framed, slot_type}
 use Rattle.krml_types.proofs.LayersOfForms.{bin_layer, shift_layer, cmp_layer, read_layer, write_layer, slice_layer, frame_layer, alloc_layer, fill_layer}
 use Rattle.krml_types.proofs.Moved.{same_has, same_type, moved_has, moved_type}
-use Rattle.krml_types.proofs.Steps.{fails, handed_number}
-
--- what is given stays under an equal option
-pub seen_as : (t : Table) (z : Result ℕ Untyped) (o x : Option Ty) → o ≡ x → GivesNumber t z x → GivesNumber t z o
-seen_as t z o x is g = subst (λ y. GivesNumber t z y) (sym is) g
-
--- the failure of an operand is handed on
-pub handed_type : (t : Table) (r : Result (Unit {0}) Untyped) (q : Result ℕ Untyped) (e : Untyped) (o : Option (Unit {0})) (x : Option Ty) → Gives r o → r ≡ Err e → q ≡ Err e → (o ≡ None → x ≡ None) → GivesNumber t q x
-handed_type t r q Fault o x g r_is q_is none = subst (λ z. GivesNumber t z x) (sym q_is) (none (subst (λ z. Gives z o) r_is g))
-handed_type t r q NoMemory o x g r_is q_is none = subst (λ z. GivesNumber t z x) (sym q_is) tt
+use Rattle.krml_types.proofs.Steps.{fails, handed_number, unmet_number, seen_as}
 
 -- ---- forms, with what is read of their parts
 
@@ -125,7 +115,7 @@ module _ (p q : Place) (same : q ≡ p) where
   pub index_fails : (t : Table) (a i : Expr) (v : Ty) (r : Result (Unit {0}) Untyped) (z : Result ℕ Untyped) (e : Untyped) (x : Option Ty)
       → type_of p.defs p.tvars a p.scope ≡ Some v → Gives r (has (type_of q.defs q.tvars i) u32 q.scope) → r ≡ Err e → z ≡ Err e
       → (read_type (type_of p.defs p.tvars a) (type_of p.defs p.tvars i) p.scope ≡ None → x ≡ None) → GivesNumber t z x
-  index_fails t a i v r z e x a_is g r_is z_is on = handed_type t r z e (has (type_of p.defs p.tvars i) u32 p.scope) x (moved_has q p i u32 r same g) r_is z_is (λ none.
+  index_fails t a i v r z e x a_is g r_is z_is on = unmet_number t r z e (has (type_of p.defs p.tvars i) u32 p.scope) x (moved_has q p i u32 r same g) r_is z_is (λ none.
       on (ap (λ o. o >>= λ b. has (type_of p.defs p.tvars i) u32 p.scope >>= λ u. element_of (out-Ty b)) a_is ∙ ap (λ o. o >>= λ u. element_of (out-Ty v)) none))
 
   pub at_index : (a i : Expr) (v : Ty) → type_of p.defs p.tvars a p.scope ≡ Some v → has (type_of q.defs q.tvars i) u32 q.scope ≡ Some tt

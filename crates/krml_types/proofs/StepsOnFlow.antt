@@ -10,7 +10,7 @@ use Rattle.krml_syntax.specs.declared.tree.Expr.{Expr}
 use Rattle.krml_syntax.specs.declared.tree.Expr.TheVariants as e
 use Rattle.krml_syntax.specs.declared.tree.Expr.TheFolds.{fold_out-Item, fold_out-Case}
 use Rattle.krml_syntax.specs.Read.{◌>>=◌}
-use Rattle.krml_ast.specs.IsType.{erased, u32}
+use Rattle.krml_syntax.specs.Types.{erased, u32}
 use Rattle.krml_ast.specs.Typing.{Scope, with_vars, in_loop}
 use Rattle.krml_intern.specs.Table.{Table, Means, Grows}
 use Rattle.krml_intern.specs.Unlabelled.{IsErased}
@@ -47,13 +47,6 @@ pub there_turn : (p q : Place) (n : List ℕ) (x y : Expr) → p ≡ q → x ≡
 there_turn p q n x y p_is x_is = sym (ap (λ (p : Place). turn_type n (type_of p.defs p.tvars x) p.scope) p_is ∙ ap (λ z. turn_type n (type_of q.defs q.tvars z) q.scope) x_is)
 
 -- ---- failures and successes
-
-pub unmet_number : (t : Table) (r : Result (Unit {0}) Untyped) (q : Result ℕ Untyped) (e : Untyped) (o : Option (Unit {0})) (x : Option Ty) → Gives r o → r ≡ Err e → q ≡ Err e → (o ≡ None → x ≡ None) → GivesNumber t q x
-unmet_number t r q Fault o x g r_is q_is none = subst (λ z. GivesNumber t z x) (sym q_is) (none (subst (λ z. Gives z o) r_is g))
-unmet_number t r q NoMemory o x g r_is q_is none = subst (λ z. GivesNumber t z x) (sym q_is) tt
-
-pub number_of : (t : Table) (r : Result ℕ Untyped) (o x : Option Ty) → GivesNumber t r o → x ≡ o → GivesNumber t r x
-number_of t r o x g is = subst (λ z. GivesNumber t r z) (sym is) g
 
 pub table_of : (s t : Table) (k : ℕ) (a : Ty) → t ≡ s → IsErased s k a → IsErased t k a
 table_of s t k a is i = subst (λ (t : Table). IsErased t k a) (sym is) i

@@ -11,7 +11,7 @@ use Rattle.krml_syntax.specs.declared.tree.Expr.{Expr}
 use Rattle.krml_syntax.specs.declared.tree.Def.{Def}
 use Rattle.krml_syntax.specs.declared.tree.Def.TheVariants as d
 use Rattle.krml_ast.specs.Names.{Signature, fun_named, type_named}
-use Rattle.krml_ast.specs.IsType.{erased}
+use Rattle.krml_syntax.specs.Types.{erased}
 use Rattle.krml_ast.specs.Typing.{Vars, Scope}
 use Rattle.krml_ast.specs.WellTyped.{names_of}
 use Rattle.krml_ast.specs.declared.kind.NameKind.{NameKind}

@@ -15,10 +15,9 @@ use Rattle.krml_syntax.specs.declared.tree.Expr.TheOpen.{Expr-F, Arm-F, Item-F, 
 use Rattle.krml_syntax.specs.declared.tree.Expr.TheFolds.{fold-Expr, fold-Arm, fold-Item, fold-Case}
 use Rattle.krml_syntax.specs.Read.{◌>>=◌}
 use Rattle.krml_ast.specs.Names.{table_named}
-use Rattle.krml_ast.specs.IsType.{erased, int_ty, u32, is_unit_in}
-use Rattle.krml_ast.specs.TypeParts.{element_of}
+use Rattle.krml_syntax.specs.Types.{erased, int_ty, u32, is_unit_in, element_of}
 use Rattle.krml_ast.specs.Typing.{look, Scope, with_vars, in_loop, in_frame}
-use Rattle.krml_ast.specs.Vars.{are_distinct}
+use Rattle.krml_intern.specs.Scope.{are_distinct}
 use Rattle.krml_types.specs.Types.{same_ty, is_flat, is_type}
 use Rattle.krml_types.specs.Parts.{demand, is_value}
 use Rattle.krml_types.specs.Instances.{Instance, make_at, con_at, call_at, field_type, tag_type, part_type}

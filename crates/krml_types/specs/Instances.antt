@@ -5,8 +5,7 @@ use Rattle.krml_syntax.specs.declared.tree.Ty.TheVariants as t
 use Rattle.krml_syntax.specs.declared.tree.Def.{Def}
 use Rattle.krml_syntax.specs.Read.{◌>>=◌}
 use Rattle.krml_ast.specs.Names.{struct_named, con_named, fun_named, field_named}
-use Rattle.krml_ast.specs.IsType.{erased}
-use Rattle.krml_ast.specs.TypeParts.{name_of}
+use Rattle.krml_syntax.specs.Types.{erased, name_of}
 use Rattle.krml_ast.specs.Typing.{at, fields_at}
 use Rattle.krml_types.specs.declared.component.Component.{Component}
 use Rattle.krml_types.specs.declared.component.Component.TheVariants as comp

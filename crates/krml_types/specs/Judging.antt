@@ -111,6 +111,7 @@ pub record IsFound (t : Table) (defs : List Def) (kind : Component) (k j n : ℕ
   pub part : part_at defs kind name args j ≡ Some type
   pub found : IsErased t n type
 
+-- Each variable has the number of a type, and each component that was computed the number of its own.
 pub record IsJudge (defs : List Def) (t : Table) (components : BTreeMap (ℕ × (ℕ × ℕ)) ℕ) (vars : List (List ℕ × ℕ)) : Type 0 where
   pub scope : AllByRecursion (λ (v : List ℕ × ℕ). (a : Ty) × IsErased t v.1 a) vars
   pub found : (kind : Component) (k j n : ℕ) → get key_cmp components (code_of kind, (k, j)) ≡ Some n → IsFound t defs kind k j n

@@ -3,7 +3,7 @@ use Rattle.std.specs.Prelude.{ℕ, Bool, not, if◌then◌else◌, List, Option,
 use Rattle.std.specs.Str.{bytes_eq}
 use Rattle.krml_syntax.specs.declared.tree.Ty.{Ty, out-Ty}
 use Rattle.krml_syntax.specs.declared.tree.Ty.TheOpen.{Ty-F}
-use Rattle.krml_ast.specs.IsType.{is_unit_in}
+use Rattle.krml_syntax.specs.Types.{is_unit_in}
 
 -- something, where a test holds
 abbrev pub demand : Bool → Option (Unit {0})

@@ -8,7 +8,7 @@ use Rattle.krml_syntax.specs.declared.tree.Pat.TheOpen.{Pat-F}
 use Rattle.krml_syntax.specs.declared.tree.Pat.TheFolds.{fold-Pat}
 use Rattle.krml_syntax.specs.declared.tree.Def.{Def}
 use Rattle.krml_syntax.specs.Read.{◌>>=◌}
-use Rattle.krml_ast.specs.IsType.{int_ty}
+use Rattle.krml_syntax.specs.Types.{int_ty}
 use Rattle.krml_ast.specs.Typing.{Vars}
 use Rattle.krml_types.specs.Types.{same_ty}
 use Rattle.krml_types.specs.Parts.{demand}

@@ -3,9 +3,9 @@ use Rattle.std.specs.Prelude.{ℕ, Bool, true, false, List, Option, Some, None, 
 use Rattle.krml_syntax.specs.declared.tree.Ty.{Ty}
 use Rattle.krml_syntax.specs.declared.tree.Slot.{Slot}
 use Rattle.krml_syntax.specs.Read.{◌>>=◌}
-use Rattle.krml_ast.specs.IsType.{erased}
+use Rattle.krml_syntax.specs.Types.{erased}
 use Rattle.krml_ast.specs.Typing.{Scope}
-use Rattle.krml_ast.specs.Vars.{cut}
+use Rattle.krml_intern.specs.Scope.{cut}
 
 abbrev pub cut_scope : ℕ → Scope → Scope
 cut_scope n g = record { vars = cut n g.vars; frame = g.frame }

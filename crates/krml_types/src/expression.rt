@@ -1,7 +1,7 @@
 ghost use Rattle.std.specs.Prelude.{◌≡◌, List, Option, OnOk, map, Some, None};
 ghost use Rattle.krml_syntax.specs.declared.tree.Ty.{Ty, out-Ty};
 ghost use Rattle.krml_syntax.specs.declared.tree.Ty.TheVariants.{Bool, Unit, Buf};
-ghost use Rattle.krml_ast.specs.IsType.{int_ty};
+ghost use Rattle.krml_syntax.specs.Types.{int_ty};
 ghost use Rattle.krml_ast.specs.Names.{table_named};
 ghost use Rattle.krml_intern.specs.Table.{Grows};
 ghost use Rattle.krml_intern.specs.Unlabelled.{IsErased};

@@ -2,7 +2,7 @@
 
 ghost use Rattle.std.specs.Prelude.{◌≡◌, take};
 ghost use Rattle.krml_syntax.specs.declared.tree.Ty.{out-Ty};
-ghost use Rattle.krml_ast.specs.IsType.{is_unit_in};
+ghost use Rattle.krml_syntax.specs.Types.{is_unit_in};
 ghost use Rattle.krml_ast.specs.Names.{type_named};
 ghost use Rattle.krml_ast.specs.Places.{is_among};
 ghost use Rattle.krml_types.specs.Parts.{is_value as is_value_ty};

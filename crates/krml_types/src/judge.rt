@@ -3,10 +3,9 @@ ghost use Rattle.std.specs.Bool.{Decides};
 ghost use Rattle.std.specs.Option.{option_copied};
 ghost use Rattle.krml_syntax.specs.declared.tree.Ty.{Ty, out-Ty};
 ghost use Rattle.krml_syntax.specs.declared.tree.Ty.TheVariants as t;
-ghost use Rattle.krml_ast.specs.IsType.{int_ty, is_unit_in, erased};
-ghost use Rattle.krml_ast.specs.TypeParts.{element_of};
+ghost use Rattle.krml_syntax.specs.Types.{int_ty, is_unit_in, erased, element_of};
 ghost use Rattle.krml_ast.specs.Typing.{look, with_vars};
-ghost use Rattle.krml_ast.specs.Vars.{are_distinct};
+ghost use Rattle.krml_intern.specs.Scope.{are_distinct};
 ghost use Rattle.krml_intern.specs.Table.{Table, Means, Grows, head_of};
 ghost use Rattle.krml_intern.specs.Unlabelled.{IsErased};
 ghost use Rattle.krml_types.specs.Instances.{written, part_at};
@@ -26,7 +25,8 @@ use std::collections::BTreeMap;
 use std::marker::Model;
 use std::mem;
 
-/// A type that a definition writes, at the type arguments of the struct, constructor or function of a number.
+/// Which component: the code of its kind, the number that has the name and the type arguments, and the place among those of the
+/// kind.
 type Key = (u8, (usize, usize));
 
 /// Where expressions are judged: the types so far by number, with those of the components of definitions that were asked for;
@@ -34,7 +34,6 @@ type Key = (u8, (usize, usize));
 /// types, and the slots of the frame around.
 #[derive(Drop)]
 pub struct Judge<'n, 'a> {
-    alloc: Global,
     index: &'n Index<'a>,
     types: TypeTable<'a>,
     components: BTreeMap<Key, usize>,
@@ -87,7 +86,6 @@ impl<'n, 'a> Judge<'n, 'a> {
         ensures { result ≡ nothing_yet index.now }
     {
         Judge {
-            alloc,
             index,
             types: TypeTable::new(alloc),
             components: BTreeMap::new(alloc),

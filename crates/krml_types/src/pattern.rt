@@ -1,7 +1,7 @@
 ghost use Rattle.std.specs.Prelude.{◌≡◌, List, ◌∷◌, OnOk, Some, map};
 ghost use Rattle.krml_syntax.specs.declared.tree.Ty.{Ty};
 ghost use Rattle.krml_syntax.specs.declared.tree.Ty.TheVariants.{Bool};
-ghost use Rattle.krml_ast.specs.IsType.{int_ty};
+ghost use Rattle.krml_syntax.specs.Types.{int_ty};
 ghost use Rattle.krml_intern.specs.Table.{Grows};
 ghost use Rattle.krml_intern.specs.Unlabelled.{IsErased};
 ghost use Rattle.krml_types.specs.Gives.{Gives};

@@ -1,5 +1,5 @@
 use Rattle.std.proofs.Common.{◌≡◌, map, take}
-use Rattle.krml_ast.specs.IsType.{type_at}
+use Rattle.krml_syntax.specs.Types.{type_at}
 use Rattle.krml_ast.proofs.labels.Labels.make_parts.Given as goal
 
 abbrev pub invariant-loop-field : goal.invariant-loop-field

@@ -1,6 +1,6 @@
 use Rattle.std.proofs.Common.{rules, map, take, subst, sym}
 use Rattle.krml_syntax.specs.declared.tree.Ty.TheVariants as ty
-use Rattle.krml_ast.specs.IsType.{type_at, erased}
+use Rattle.krml_syntax.specs.Types.{type_at, erased}
 use Rattle.krml_intern.specs.Table.{Means}
 use Rattle.krml_intern.proofs.Puts.{grows_on}
 use Rattle.krml_intern.proofs.Unlabelled.{all_erased_still, erased_still, take_more}

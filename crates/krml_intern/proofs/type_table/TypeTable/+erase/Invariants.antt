@@ -1,7 +1,7 @@
 use Rattle.std.proofs.Common.{List, map, take}
 use Rattle.krml_syntax.specs.declared.tree.Ty.{Ty}
 use Rattle.krml_syntax.specs.declared.tree.Ty.TheVariants as ty
-use Rattle.krml_ast.specs.IsType.{type_at, erased}
+use Rattle.krml_syntax.specs.Types.{type_at, erased}
 use Rattle.krml_intern.specs.Table.{Means, Grows}
 use Rattle.krml_intern.specs.Unlabelled.{AllErased, AreErased}
 use Rattle.krml_intern.proofs.type_table.TypeTable.+erase.Given as goal

@@ -1,6 +1,6 @@
 use Rattle.std.proofs.Common.{◌≡◌, ℕ, Option, Some, sym, subst, ◌∙◌}
 use Rattle.krml_syntax.specs.declared.tree.Ty.{out-Ty}
-use Rattle.krml_ast.specs.TypeParts.{element_of}
+use Rattle.krml_syntax.specs.Types.{element_of}
 use Rattle.krml_intern.specs.declared.node.Node.{Node}
 use Rattle.krml_intern.specs.Table.{Stands, IsNumber}
 use Rattle.krml_intern.proofs.Puts.{element_is}

@@ -2,12 +2,12 @@
 use Rattle.std.proofs.Common.{[], map, Some, ap, ◌∙◌}
 use Rattle.std.proofs.lemmas.Result.{IfOk-weaker}
 use Rattle.krml_syntax.specs.declared.tree.Ty.TheVariants as ty
-use Rattle.krml_ast.specs.IsType.{erased}
-use Rattle.krml_intern.proofs.Unlabelled.{all_at_none}
+use Rattle.krml_syntax.specs.Types.{erased}
+use Rattle.krml_syntax.proofs.Types.{all_at_none}
 use Rattle.krml_intern.proofs.type_table.TypeTable.named.Goals as goal
 
 pub named_at-requires : goal.named_at-requires
 named_at-requires c = record { types = []; all = record { mean = tt; erased = tt } }
 
 pub returns-clause-value : goal.returns-clause-value
-returns-clause-value c = IfOk-weaker c.named_at.result _ _ (λ n h. h [] (record { mean = tt; erased = tt }) ∙ ap (λ ts. Some (ty.Named c.args.x.now (map erased ts))) (all_at_none c.args.types.now)) c.named_at.ensures.value
+returns-clause-value c = IfOk-weaker c.named_at.result _ _ (λ n h. h [] (record { mean = tt; erased = tt }) ∙ ap (λ ts. Some (ty.Named c.args.x.now (map erased ts))) (all_at_none [] c.args.types.now)) c.named_at.ensures.value

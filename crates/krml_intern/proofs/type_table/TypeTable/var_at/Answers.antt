@@ -3,7 +3,7 @@ use Rattle.std.proofs.Common.{◌≡◌, ap, sym, subst, ◌∙◌, Some, Option
 use Rattle.std.specs.Option.{MatchOption}
 use Rattle.std.proofs.lemmas.Result.{IfOk-weaker}
 use Rattle.krml_syntax.specs.declared.tree.Ty.TheVariants as ty
-use Rattle.krml_ast.specs.IsType.{argument_of}
+use Rattle.krml_syntax.specs.Types.{argument_of}
 use Rattle.krml_intern.specs.Table.{Means}
 use Rattle.krml_intern.proofs.Unlabelled.{argument_erased}
 use Rattle.krml_intern.proofs.type_table.TypeTable.var_at.Goals as goal

@@ -16,15 +16,14 @@ use Rattle.krml_types.proofs.ArmsByNumber.{arm_binds, arm_at, arm_none, distinct
 use Rattle.krml_types.proofs.LayersOfForms.{make_layer, con_layer, call_layer}
 use Rattle.krml_types.proofs.Scopes.{cut_back}
 use Rattle.krml_types.proofs.Moved.{same_has, moved_has}
-use Rattle.krml_types.proofs.Steps.{has_by, has_unit_by, fails, component_at, ends_at, handed_on, handed, handed_number, each_has_past, each_has_fails, each_has_more, each_has_end, drop_all, number_still, arms_more, arms_fail, cases_more, cases_fail, tests_more, tests_fail, items_more, items_fail, unled}
+use Rattle.krml_types.proofs.Steps.{has_by, has_unit_by, fails, component_at, ends_at, handed_on, handed, handed_number, unmet_number, seen_as, each_has_past, each_has_fails, each_has_more, each_has_end, drop_all, number_still, arms_more, arms_fail, cases_more, cases_fail, tests_more, tests_fail, items_more, items_fail, unled}
 use Rattle.krml_syntax.specs.declared.tree.Ty.{out-Ty}
-use Rattle.krml_ast.specs.IsType.{int_ty, u32, erased}
-use Rattle.krml_ast.specs.TypeParts.{element_of}
-use Rattle.krml_types.proofs.StepsOnBuffers.{seen_as, bin_step, shift_step, cmp_step, read_step, write_step, slice_step, framed_step, alloc_step, fill_step, one_fails, one_has, second_fails, second_has, index_fails, at_index, filled_at, write_then, slice_then, write_none, slice_none, frame_fails, frame_then, result_fails, result_is, alloc_then, fill_then}
+use Rattle.krml_syntax.specs.Types.{int_ty, u32, erased, element_of}
+use Rattle.krml_types.proofs.StepsOnBuffers.{bin_step, shift_step, cmp_step, read_step, write_step, slice_step, framed_step, alloc_step, fill_step, one_fails, one_has, second_fails, second_has, index_fails, at_index, filled_at, write_then, slice_then, write_none, slice_none, frame_fails, frame_then, result_fails, result_is, alloc_then, fill_then}
 use Rattle.krml_types.specs.Types.{is_type}
 use Rattle.krml_types.proofs.Blocks.{items_cut}
 use Rattle.krml_types.proofs.InstanceNumbers.{number_is}
-use Rattle.krml_types.proofs.StepsOnFlow.{there_has, there_type, there_bool, there_unit, there_u32, there_turn, unmet, unmet_number, number_of, table_of, grows_from, grows_by, on_any, if_none, if_fails, if_gives, do_at, while_none, while_fails, while_gives, for_fails, for_at, case_at, let_fails, let_gives, let_leads}
+use Rattle.krml_types.proofs.StepsOnFlow.{there_has, there_type, there_bool, there_unit, there_u32, there_turn, unmet, table_of, grows_from, grows_by, on_any, if_none, if_fails, if_gives, do_at, while_none, while_fails, while_gives, for_fails, for_at, case_at, let_fails, let_gives, let_leads}
 use Rattle.krml_types.proofs.judge.Judge.+check.Goals as goal
 use Rattle.krml_syntax.specs.declared.tree.Ty.TheVariants as ty
 
@@ -384,7 +383,7 @@ binary-returns-in_ok-has_int-in-Cmp-2-clause-value t c =
 pub case-returns-clause-value : goal.case-returns-clause-value
 case-returns-clause-value t c =
     let body_is = there_type c.are_tests.new.self.place c.args.self.now.place c.args.case.now.body c.args.case.now.body c.in_ok-are_tests.ensures.place refl in
-    number_of c.type_of.new.self.table c.type_of.result _ _ c.type_of.ensures.value (case_at c.args.self.now.place.defs c.args.self.now.place.tvars c.args.case.now c.as_slice.result.now c.args.self.now.place.scope c.as_slice.ensures c.in_ok-are_tests.ensures.value ∙ body_is)
+    seen_as c.type_of.new.self.table c.type_of.result _ _ (case_at c.args.self.now.place.defs c.args.self.now.place.tvars c.args.case.now c.as_slice.result.now c.args.self.now.place.scope c.as_slice.ensures c.in_ok-are_tests.ensures.value ∙ body_is) c.type_of.ensures.value
 
 pub flow-returns-in_err-k-in-If-clause-value : goal.flow-returns-in_err-k-in-If-clause-value
 flow-returns-in_err-k-in-If-clause-value t c =
@@ -524,14 +523,14 @@ pub repeated-returns-in_ok-has_unit-in-While-clause-value : goal.repeated-return
 repeated-returns-in_ok-has_unit-in-While-clause-value t c =
     let test_is = there_bool c.enter-around.new.self.place (in_scope c.args.self.now.place (in_loop c.args.self.now.place.scope)) c.get.result.now c.in-While.c c.enter-around.ensures.place c.get.ensures in
     let a_is = there_unit c.has_bool.new.self.place (in_scope c.args.self.now.place (in_loop c.args.self.now.place.scope)) c.get-in-While.result.now c.in-While.a (c.in_ok-has_bool-in-While.ensures.place ∙ c.enter-around.ensures.place) c.get-in-While.ensures in
-    number_of c.unit.new.self.table c.unit.result _ _ c.unit.ensures.value (while_gives c.args.self.now.place.defs c.args.self.now.place.tvars c.args.e.now c.in-While.c c.in-While.a c.in-While.is c.args.self.now.place.scope (test_is ∙ c.in_ok-has_bool-in-While.ensures.value) (a_is ∙ c.in_ok-has_unit-in-While.ensures.value))
+    seen_as c.unit.new.self.table c.unit.result _ _ (while_gives c.args.self.now.place.defs c.args.self.now.place.tvars c.args.e.now c.in-While.c c.in-While.a c.in-While.is c.args.self.now.place.scope (test_is ∙ c.in_ok-has_bool-in-While.ensures.value) (a_is ∙ c.in_ok-has_unit-in-While.ensures.value)) c.unit.ensures.value
 
 pub repeated-returns-in_ok-has_int-in-For-2-clause-value : goal.repeated-returns-in_ok-has_int-in-For-2-clause-value
 repeated-returns-in_ok-has_int-in-For-2-clause-value t c =
     let first = there_u32 c.args.self.now.place c.args.self.now.place c.get-in-For.result.now c.in-For.a refl c.get-in-For.ensures ∙ c.in_ok-has_int-in-For.ensures.value in
     let b_is = there_u32 c.has_int.new.self.place c.args.self.now.place c.get-in-For-2.result.now c.in-For.b c.in_ok-has_int-in-For.ensures.place c.get-in-For-2.ensures in
     let turn_is = there_turn c.has_int-in-For.new.self.place c.args.self.now.place c.in-For.x c.get-in-For-3.result.now c.in-For.c (c.in_ok-has_int-in-For-2.ensures.place ∙ c.in_ok-has_int-in-For.ensures.place) c.get-in-For-3.ensures in
-    number_of c.turn.new.self.table c.turn.result _ _ c.turn.ensures.value (for_at c.args.self.now.place.defs c.args.self.now.place.tvars c.args.e.now c.in-For.x c.in-For.a c.in-For.b c.in-For.c c.in-For.is c.args.self.now.place.scope first (b_is ∙ c.in_ok-has_int-in-For-2.ensures.value) ∙ turn_is)
+    seen_as c.turn.new.self.table c.turn.result _ _ (for_at c.args.self.now.place.defs c.args.self.now.place.tvars c.args.e.now c.in-For.x c.in-For.a c.in-For.b c.in-For.c c.in-For.is c.args.self.now.place.scope first (b_is ∙ c.in_ok-has_int-in-For-2.ensures.value) ∙ turn_is) c.turn.ensures.value
 
 pub item-returns-in_ok-push-in-Let-clause-value : goal.item-returns-in_ok-push-in-Let-clause-value
 item-returns-in_ok-push-in-Let-clause-value t c =

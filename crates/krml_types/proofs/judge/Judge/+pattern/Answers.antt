@@ -2,9 +2,10 @@
 use Rattle.std.proofs.Common.{Ok, Err, sym, ap, ◌∙◌, subst, arith}
 use Rattle.krml_syntax.specs.declared.tree.Ty.TheVariants as ty
 use Rattle.krml_syntax.specs.declared.tree.Pat.TheVariants as p
+use Rattle.krml_intern.proofs.Puts.{grows_on}
 use Rattle.krml_intern.proofs.Erasing.{is_erased_still}
 use Rattle.krml_types.specs.Judging.{Place, Binds}
-use Rattle.krml_types.proofs.InstanceNumbers.{any_binds, variable_binds, con_binds, make_binds, part_gives, no_part, no_match, one_matched, still_bound, grows_then, all_matched}
+use Rattle.krml_types.proofs.InstanceNumbers.{any_binds, variable_binds, con_binds, make_binds, part_gives, no_part, no_match, one_matched, still_bound, all_matched}
 use Rattle.krml_types.proofs.judge.Judge.+pattern.Goals as goal
 
 pub bind-returns-in-Any-clause-value : goal.bind-returns-in-Any-clause-value
@@ -54,7 +55,7 @@ bind_parts-loop-j-preserved t c =
     let new = c.bind.new.self in
     let some = c.in_ok-part.ensures.value c.requires.name c.requires.args (is_erased_still old.table now.table inv.1 c.args.k (ty.Named c.requires.name c.requires.args) c.requires.is) in (
       still_bound old.place mid.place new.place now.place.scope.vars mid.table c.in_ok-part.part some.0 c.index-pats-j.result c.in_ok-bind.field-0 (c.in_ok-part.ensures.place ∙ inv.0) some.2 c.in_ok-bind.ensures.value,
-      grows_then old.table now.table new.table inv.1 (grows_then now.table mid.table new.table c.in_ok-part.ensures.grows c.in_ok-bind.ensures.grows),
+      grows_on old.table now.table new.table inv.1 (grows_on now.table mid.table new.table c.in_ok-part.ensures.grows c.in_ok-bind.ensures.grows),
       λ types are.
           let given = part_gives old.table now.table mid.table old.place.defs now.place.defs c.args.kind c.args.k c.loop-j.j types (Ok c.in_ok-part.part) inv.1 (ap (λ (m : Place). m.defs) inv.0) are c.in_ok-part.ensures.value in
           one_matched old.place c.args.pats.now types c.loop-j.j c.index-pats-j.result now.place.scope.vars c.loop-j-test.true c.index-pats-j.is (inv.2 types are) mid.table c.in_ok-part.part mid.place new.place

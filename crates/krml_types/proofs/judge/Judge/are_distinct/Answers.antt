@@ -1,5 +1,5 @@
 use Rattle.std.proofs.Common.{◌-◌, length, take, ap, ◌∙◌}
-use Rattle.krml_ast.specs.Vars.{are_distinct}
+use Rattle.krml_intern.specs.Scope.{are_distinct}
 use Rattle.krml_types.specs.Judging.{Around}
 use Rattle.krml_types.proofs.Judged.{distinct_newest}
 use Rattle.krml_types.proofs.judge.Judge.are_distinct.Goals as goal

@@ -1,6 +1,6 @@
 -- A function's body has the type of its result.
 use Rattle.std.proofs.Common.{◌≡◌, ◌++◌, None, sym, ap, ◌∙◌, append-nil}
-use Rattle.krml_ast.specs.IsType.{erased}
+use Rattle.krml_syntax.specs.Types.{erased}
 use Rattle.krml_intern.proofs.Erasing.{is_erased_still}
 use Rattle.krml_types.specs.Definitions.{param_vars, body_scope}
 use Rattle.krml_types.specs.Expressions.{type_of}

@@ -1,7 +1,7 @@
 use Rattle.std.proofs.Common.{Bor, option_map, ◌≡◌, ℕ, List, Some, sym, subst, ap, ◌∙◌}
 use Rattle.krml_syntax.specs.declared.tree.Ty.{Ty, out-Ty}
 use Rattle.krml_syntax.specs.declared.tree.Ty.TheVariants as ty
-use Rattle.krml_ast.specs.IsType.{erased, type_at}
+use Rattle.krml_syntax.specs.Types.{erased, type_at}
 use Rattle.krml_intern.specs.Table.{Means, AllMean, head_of}
 use Rattle.krml_intern.specs.Unlabelled.{AllErased}
 use Rattle.krml_types.specs.Judging.{Around, GivesNumber}

@@ -1,7 +1,7 @@
 use Rattle.std.proofs.Common.{rules, ◌≡◌, sym, subst}
 use Rattle.std.specs.Option.{ok_or}
 use Rattle.krml_syntax.specs.declared.tree.Ty.{out-Ty}
-use Rattle.krml_ast.specs.TypeParts.{element_of}
+use Rattle.krml_syntax.specs.Types.{element_of}
 use Rattle.krml_intern.specs.Table.{Means}
 use Rattle.krml_types.specs.declared.untyped.Untyped.TheVariants.{Fault}
 use Rattle.krml_types.specs.Judging.{Around, GivesNumber}

@@ -1,6 +1,6 @@
 use Rattle.std.proofs.Common.{ap, ◌∙◌}
 use Rattle.std.proofs.lemmas.Result.{IfOk-weaker}
-use Rattle.krml_ast.specs.IsType.{erased}
+use Rattle.krml_syntax.specs.Types.{erased}
 use Rattle.krml_intern.proofs.Erasing.{is_erased}
 use Rattle.krml_types.specs.Judging.{Around}
 use Rattle.krml_types.proofs.Judged.{judge_still, place_still}

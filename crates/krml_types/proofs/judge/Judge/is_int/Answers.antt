@@ -1,5 +1,5 @@
 -- The type is an integer type.
-use Rattle.krml_ast.specs.IsType.{int_ty}
+use Rattle.krml_syntax.specs.Types.{int_ty}
 use Rattle.krml_types.proofs.InstanceNumbers.{same_tested}
 use Rattle.krml_types.proofs.judge.Judge.is_int.Goals as goal
 

@@ -1,7 +1,7 @@
 use Rattle.std.proofs.Common.{map, ap, ◌∙◌}
 use Rattle.std.proofs.lemmas.Result.{IfOk-weaker}
 use Rattle.krml_syntax.specs.declared.tree.Ty.TheVariants as ty
-use Rattle.krml_ast.specs.IsType.{erased}
+use Rattle.krml_syntax.specs.Types.{erased}
 use Rattle.krml_intern.proofs.Erasing.{named_plain, all_erased_plain}
 use Rattle.krml_types.specs.Judging.{Around}
 use Rattle.krml_types.proofs.Judged.{judge_still, place_still}

@@ -2,14 +2,15 @@ use Rattle.std.proofs.Common.{ap, ◌∙◌}
 use Rattle.std.proofs.lemmas.Result.{IfOk-weaker}
 use Rattle.krml_syntax.specs.declared.tree.Ty.TheVariants as ty
 use Rattle.krml_types.specs.Judging.{Around}
-use Rattle.krml_types.proofs.Judged.{judge_still, place_still, unit_plain}
+use Rattle.krml_syntax.proofs.Types.{erased_unit}
+use Rattle.krml_types.proofs.Judged.{judge_still, place_still}
 use Rattle.krml_types.proofs.judge.Judge.unit.Goals as goal
 
 pub invariant_of-self : goal.invariant_of-self
 invariant_of-self c = judge_still c.self.inside.index.now c.self.inside.types c.unit-k.new.self c.self.inside.components c.self.inside.scope c.unit-k.ensures.grows c.self.invariant
 
 pub returns-clause-value : goal.returns-clause-value
-returns-clause-value c = c.given.ensures c.unit-k.new.self ty.Unit (IfOk-weaker c.unit-k.result _ _ (λ n m. record { means = m; plain = unit_plain }) c.unit-k.ensures.value)
+returns-clause-value c = c.given.ensures c.unit-k.new.self ty.Unit (IfOk-weaker c.unit-k.result _ _ (λ n m. record { means = m; plain = erased_unit }) c.unit-k.ensures.value)
 
 pub returns-clause-place : goal.returns-clause-place
 returns-clause-place c =
