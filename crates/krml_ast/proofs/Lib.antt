@@ -1,3 +1,4 @@
+pub mod ComponentsMore
 pub mod Earlier
 pub mod Firsts
 pub mod Labelled

@@ -1,3 +1,4 @@
+pub mod Components
 pub mod FileTypes
 pub mod Found
 pub mod IsType

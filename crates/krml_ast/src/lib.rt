@@ -1,6 +1,8 @@
 //! The source language: its trees, their types, and the forms of files between the passes.
 #![tactic(auto)]
 
+mod component;
+mod components;
 mod event;
 mod fields;
 mod file;
@@ -14,6 +16,8 @@ mod run;
 mod types;
 mod vars;
 
+pub use component::Component;
+pub use components::Components;
 pub use event::SourceEvent;
 pub use fields::field_named;
 pub use file::{BundledFile, CheckedFile, Emitted, HoistedFile, MonoFile, PlainFile};

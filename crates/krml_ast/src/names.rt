@@ -1,9 +1,11 @@
 ghost use Rattle.std.specs.Prelude.{◌≡◌, ℕ, List, IfOk, option_map};
 ghost use Rattle.krml_ast.specs.declared.kind.NameKind.{NameKind as Kind};
 ghost use Rattle.krml_ast.specs.Names.{vars_named, struct_named, sum_named, con_in, con_named, table_named, fun_named};
+ghost use Rattle.krml_ast.specs.Components.{written};
 ghost use Rattle.krml_ast.specs.Found.{has_of, struct_def, sum_def, con_def, fun_def};
 ghost use Rattle.krml_ast.specs.Places.{place_of, first_of};
 
+use crate::component::Component;
 use crate::found::{ConDef, FunDef, StructDef, SumDef};
 use crate::kind::NameKind;
 use crate::places::Places;
@@ -154,6 +156,34 @@ impl<'a> Names<'a> {
                 result,
             }),
             _ => None,
+        }
+    }
+
+    /// The type variables of the struct, constructor or function of a name, and a type that it writes, by its place among those
+    /// of a kind.
+    pub fn written(&self, kind: Component, x: &Name, j: usize) -> Option<(&'a [Name], &'a Ty)>
+        ensures { option_map (λ w. (w.0.now, w.1.now)) result ≡ written self.now kind x.now j }
+    {
+        match kind {
+            Component::Field => {
+                let def = self.struct_named(x)?;
+                let field = def.fields.get(j)?;
+                Some((def.vars, &field.ty))
+            }
+            Component::Argument => {
+                let def = self.con_named(x)?;
+                let ty = def.args.get(j)?;
+                Some((def.vars, ty))
+            }
+            Component::Parameter => {
+                let def = self.fun_named(x)?;
+                let param = def.params.get(j)?;
+                Some((def.vars, &param.ty))
+            }
+            Component::Result => {
+                let def = self.fun_named(x)?;
+                Some((def.vars, def.result))
+            }
         }
     }
 }

@@ -25,8 +25,8 @@ use Rattle.krml_intern.specs.Table.{Table, Grows, head_of}
 use Rattle.krml_intern.specs.Unlabelled.{IsErased}
 use Rattle.krml_syntax.proofs.Types.{at_erased}
 use Rattle.krml_intern.proofs.Erasing.{is_erased_still}
-use Rattle.krml_types.specs.declared.component.Component.{Component}
-use Rattle.krml_types.specs.declared.component.Component.TheVariants as comp
+use Rattle.krml_ast.specs.declared.component.Component.{Component}
+use Rattle.krml_ast.specs.declared.component.Component.TheVariants as comp
 use Rattle.krml_types.specs.declared.untyped.Untyped.{Untyped}
 use Rattle.krml_types.specs.declared.untyped.Untyped.TheVariants.{Fault, NoMemory}
 use Rattle.krml_types.specs.Gives.{Gives}

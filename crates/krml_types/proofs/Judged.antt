@@ -1,7 +1,6 @@
 -- Judges whose types, scopes and components grow.
 use Prim.Native.Nat.{zero, suc}
 use Rattle.std.proofs.Common.{◌≡◌, ℕ, ◌-◌, Bool, true, false, cond, if◌then◌else◌, List, [], ◌∷◌, length, drop, take, map, get_or, Option, Some, Ok, Bor, refl, sym, ap, subst, ◌∙◌}
-use Rattle.std.specs.BTreeMap.{BTreeMap, get, is_at, Updates}
 use Rattle.std.specs.List.{AllByRecursion}
 use Rattle.std.specs.Option.{option_copied}
 use Rattle.std.specs.Ordering.{nat_cmp}
@@ -22,10 +21,11 @@ use Rattle.krml_intern.specs.Scope.{look, cut, is_new, are_distinct}
 use Rattle.krml_intern.specs.Table.{Table, Means, Grows}
 use Rattle.krml_intern.specs.Unlabelled.{IsErased}
 use Rattle.krml_intern.proofs.Erasing.{is_erased_still, one_meaning}
-use Rattle.krml_types.specs.declared.component.Component.{Component}
-use Rattle.krml_types.specs.declared.component.Component.TheVariants as comp
+use Rattle.krml_ast.specs.declared.component.Component.{Component}
+use Rattle.krml_ast.specs.Components.{Found, found_at, Adds}
+use Rattle.krml_ast.proofs.ComponentsMore.{found_more}
 use Rattle.krml_types.specs.Instances.{part_at}
-use Rattle.krml_types.specs.Judging.{Place, typed, GivesNumber, IsNumberOf, IsKnown, IsAt, code_of, IsFound, IsJudge}
+use Rattle.krml_types.specs.Judging.{Place, typed, GivesNumber, IsNumberOf, IsFound, IsJudge}
 
 -- ---- numbers
 
@@ -112,7 +112,7 @@ found_still s t g defs kind k j n f = record {
   found = is_erased_still s t g n f.type f.found;
 }
 
-pub judge_still : (defs : List Def) (s t : Table) (cs : BTreeMap (ℕ × (ℕ × ℕ)) ℕ) (vs : List (List ℕ × ℕ)) → Grows s t → IsJudge defs s cs vs → IsJudge defs t cs vs
+pub judge_still : (defs : List Def) (s t : Table) (cs : Found) (vs : List (List ℕ × ℕ)) → Grows s t → IsJudge defs s cs vs → IsJudge defs t cs vs
 judge_still defs s t cs vs g ok = record {
   scope = scope_still s t g vs ok.scope;
   found = λ kind k j n e. found_still s t g defs kind k j n (ok.found kind k j n e);
@@ -126,44 +126,13 @@ found_gives t defs kind k j n x args f e =
     let all = same_args f.name x f.args args one in
     (f.type, subst (λ y. part_at defs kind y args j ≡ Some f.type) names (subst (λ zs. part_at defs kind f.name zs j ≡ Some f.type) all f.part), f.found)
 
-code_is : (c d : Component) → code_of c ≡ code_of d → c ≡ d
-code_is comp.Field comp.Field e = refl
-code_is comp.Argument comp.Argument e = refl
-code_is comp.Parameter comp.Parameter e = refl
-code_is comp.Result comp.Result e = refl
-code_is comp.Field comp.Argument e = absurd (cc)
-code_is comp.Field comp.Parameter e = absurd (cc)
-code_is comp.Field comp.Result e = absurd (cc)
-code_is comp.Argument comp.Field e = absurd (cc)
-code_is comp.Argument comp.Parameter e = absurd (cc)
-code_is comp.Argument comp.Result e = absurd (cc)
-code_is comp.Parameter comp.Field e = absurd (cc)
-code_is comp.Parameter comp.Argument e = absurd (cc)
-code_is comp.Parameter comp.Result e = absurd (cc)
-code_is comp.Result comp.Field e = absurd (cc)
-code_is comp.Result comp.Argument e = absurd (cc)
-code_is comp.Result comp.Parameter e = absurd (cc)
+pub judge_more : (defs : List Def) (t : Table) (cs more : Found) (vs : List (List ℕ × ℕ)) (kind : Component) (k j n : ℕ)
+    → IsJudge defs t cs vs → IsFound t defs kind k j n → Adds cs kind k j n more → IsJudge defs t more vs
+judge_more defs t cs more vs kind k j n ok f put = record { scope = ok.scope; found = found_more (IsFound t defs) cs more kind k j n ok.found f put }
 
-is_equal : CmpEqualImpliesEq key_cmp
-is_equal = exact_pairs nat_cmp (λ x y. _) exact_unsigned (exact_pairs nat_cmp nat_cmp exact_unsigned exact_unsigned)
-
-pub components_more : (defs : List Def) (t : Table) (cs more : BTreeMap (ℕ × (ℕ × ℕ)) ℕ) (vs : List (List ℕ × ℕ)) (kind : Component) (k j n : ℕ)
-    → IsJudge defs t cs vs → IsFound t defs kind k j n → Updates key_cmp cs more (code_of kind, (k, j)) (Some n) → IsJudge defs t more vs
-components_more defs t cs more vs kind k j n ok f put = record { scope = ok.scope; found = found }
-  where
-    found : (c : Component) (l i m : ℕ) → get key_cmp more (code_of c, (l, i)) ≡ Some m → IsFound t defs c l i m
-    found c l i m e = go (is_at (key_cmp (code_of kind, (k, j))) (code_of c, (l, i))) refl
-      where
-        go : (b : Bool) → is_at (key_cmp (code_of kind, (k, j))) (code_of c, (l, i)) ≡ b → IsFound t defs c l i m
-        go true is =
-            let key : ◌≡◌ {A = ℕ × (ℕ × ℕ)} (code_of kind, (k, j)) (code_of c, (l, i)) = is_equal (code_of kind, (k, j)) (code_of c, (l, i)) ((Equal-is _).0 is) in
-            let value : get key_cmp more (code_of c, (l, i)) ≡ Some n = put.0 (code_of c, (l, i)) ∙ ap (λ b. cond b (Some n) (get key_cmp cs (code_of c, (l, i)))) is in
-            let n_is : n ≡ m = let both : Some n ≡ Some m = sym value ∙ e in cc in
-            let kind_is : kind ≡ c = code_is kind c (ap (λ p. p.0) key) in
-            let k_is : k ≡ l = ap (λ p. p.1.0) key in
-            let j_is : j ≡ i = ap (λ p. p.1.1) key in
-            subst (λ c. IsFound t defs c l i m) kind_is (subst (λ l. IsFound t defs kind l i m) k_is (subst (λ i. IsFound t defs kind k i m) j_is (subst (λ m. IsFound t defs kind k j m) n_is f)))
-        go false is = ok.found c l i m (sym (put.0 (code_of c, (l, i)) ∙ ap (λ b. cond b (Some n) (get key_cmp cs (code_of c, (l, i)))) is) ∙ e)
+pub judge_same : (defs : List Def) (t : Table) (cs more : Found) (vs : List (List ℕ × ℕ))
+    → IsJudge defs t cs vs → ((c : Component) (l i : ℕ) → found_at more c l i ≡ found_at cs c l i) → IsJudge defs t more vs
+judge_same defs t cs more vs ok same = record { scope = ok.scope; found = λ kind k j n e. ok.found kind k j n (sym (same kind k j) ∙ e) }
 
 -- ---- the place
 
@@ -171,6 +140,6 @@ abbrev pub seen_at : List Def → List (List ℕ) → Table → List (List ℕ �
 seen_at defs tvars t vs frame = record { defs = defs; tvars = tvars; scope = record { vars = typed t vs; frame = option_copied frame } }
 
 -- it is the same, seen through types that grew
-pub place_still : (defs : List Def) (tvars : List (List ℕ)) (s t : Table) (cs : BTreeMap (ℕ × (ℕ × ℕ)) ℕ) (vs : List (List ℕ × ℕ)) (frame : Option (Bor (List Slot))) → Grows s t → IsJudge defs s cs vs
+pub place_still : (defs : List Def) (tvars : List (List ℕ)) (s t : Table) (cs : Found) (vs : List (List ℕ × ℕ)) (frame : Option (Bor (List Slot))) → Grows s t → IsJudge defs s cs vs
     → seen_at defs tvars t vs frame ≡ seen_at defs tvars s vs frame
 place_still defs tvars s t cs vs frame g ok = ap (λ vars. record { defs = defs; tvars = tvars; scope = record { vars = vars; frame = option_copied frame } }) (typed_still s t g vs ok.scope)

@@ -14,11 +14,12 @@ use Rattle.krml_intern.specs.Exact.{key_cmp}
 use Rattle.krml_intern.specs.Unlabelled.{IsErased}
 use Rattle.krml_intern.specs.Table.{Table, Grows, IsNumber, head_of}
 use Rattle.krml_intern.proofs.Erasing.{element_plain, is_erased_still}
-use Rattle.krml_types.specs.declared.component.Component.{Component}
+use Rattle.krml_ast.specs.declared.component.Component.{Component}
 use Rattle.krml_types.specs.declared.untyped.Untyped.TheVariants.{Fault}
 use Rattle.krml_types.specs.Holds.{is_set, holds_in, holders}
-use Rattle.krml_types.specs.Instances.{written, part_at}
-use Rattle.krml_types.specs.Judging.{GivesNumber, IsNumberOf, IsAt, IsFound, IsJudge, code_of}
+use Rattle.krml_ast.specs.Components.{written}
+use Rattle.krml_types.specs.Instances.{part_at}
+use Rattle.krml_types.specs.Judging.{GivesNumber, IsNumberOf, IsAt, IsFound}
 use Rattle.krml_types.specs.Types.{is_flat}
 use Rattle.krml_types.proofs.Parts.{only_element}
 
@@ -106,10 +107,3 @@ pub found_now : (s t : Table) (defs : List Def) (kind : Component) (k j n : ℕ)
 found_now s t defs kind k j n at g value =
     let v : (a : Ty) × (part_at defs kind at.name at.args j ≡ Some a) × IsErased t n a = value at.name at.args at.is in
     record { name = at.name; args = at.args; type = v.0; is = is_erased_still s t g k (ty.Named at.name at.args) at.is; part = v.1; found = v.2 }
-
--- they are the same, where none was put in
-pub components_same : (defs : List Def) (t : Table) (cs more : BTreeMap (ℕ × (ℕ × ℕ)) ℕ) (vs : List (List ℕ × ℕ)) → IsJudge defs t cs vs → more.entries ≡ cs.entries → IsJudge defs t more vs
-components_same defs t cs more vs ok same = record {
-  scope = ok.scope;
-  found = λ kind k j n e. ok.found kind k j n (sym (ap (lookup (is_at (key_cmp (code_of kind, (k, j))))) same) ∙ e);
-}

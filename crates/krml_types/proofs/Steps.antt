@@ -14,7 +14,7 @@ use Rattle.krml_ast.specs.Typing.{Scope}
 use Rattle.krml_intern.specs.Table.{Table, Grows}
 use Rattle.krml_intern.specs.Unlabelled.{IsErased}
 use Rattle.krml_intern.proofs.Erasing.{is_erased_still}
-use Rattle.krml_types.specs.declared.component.Component.{Component}
+use Rattle.krml_ast.specs.declared.component.Component.{Component}
 use Rattle.krml_types.specs.declared.untyped.Untyped.{Untyped}
 use Rattle.krml_types.specs.declared.untyped.Untyped.TheVariants.{Fault, NoMemory}
 use Rattle.krml_types.specs.Definitions.{is_of}

@@ -4,11 +4,11 @@ use Rattle.krml_syntax.specs.declared.tree.Ty.{Ty, out-Ty}
 use Rattle.krml_syntax.specs.declared.tree.Ty.TheVariants as t
 use Rattle.krml_syntax.specs.declared.tree.Def.{Def}
 use Rattle.krml_syntax.specs.Read.{◌>>=◌}
+use Rattle.krml_ast.specs.declared.component.Component.{Component}
+use Rattle.krml_ast.specs.Components.{written}
 use Rattle.krml_ast.specs.Names.{struct_named, con_named, fun_named, field_named}
 use Rattle.krml_syntax.specs.Types.{erased, name_of}
 use Rattle.krml_ast.specs.Typing.{at, fields_at}
-use Rattle.krml_types.specs.declared.component.Component.{Component}
-use Rattle.krml_types.specs.declared.component.Component.TheVariants as comp
 use Rattle.krml_types.specs.Parts.{demand, args_of}
 use Rattle.krml_types.specs.Types.{are_arguments}
 
@@ -62,13 +62,6 @@ tag_type defs x a = con_named defs x >>= λ c. args_of c.sum (out-Ty a) >>= λ a
 
 -- ---- by kind and place
 
--- the type variables of a definition, and a type that it writes: of a field, of an argument of a constructor, of a parameter, or of the result
-abbrev pub written : List Def → Component → List ℕ → ℕ → Option (List (List ℕ) × Ty)
-written defs comp.Field x j = struct_named defs x >>= λ s. slice_get s.1 j >>= λ f. Some (s.0, f.ty)
-written defs comp.Argument x j = con_named defs x >>= λ c. slice_get c.args j >>= λ b. Some (c.vars, b)
-written defs comp.Parameter x j = fun_named defs x >>= λ f. slice_get f.params j >>= λ p. Some (f.vars, p.ty)
-written defs comp.Result x j = fun_named defs x >>= λ f. Some (f.vars, f.result)
-
--- the same at type arguments
+-- a component of a definition at type arguments
 abbrev pub part_at : List Def → Component → List ℕ → List Ty → ℕ → Option Ty
 part_at defs kind x args j = written defs kind x j >>= λ w. Some (at w.0 args w.1)

@@ -1,19 +1,18 @@
 -- What is judged by numbers of types, seen as types.
 use Rattle.std.specs.Prelude.{◌≡◌, ℕ, suc, if◌then◌else◌, option_map, Bool, true, false, List, [], ◌∷◌, map, get_or, slice_get, Option, Some, None, Result, Ok, Err}
-use Rattle.std.specs.BTreeMap.{BTreeMap, get}
 use Rattle.std.specs.List.{AllByRecursion}
 use Rattle.std.specs.Str.{bytes_eq}
 use Rattle.krml_syntax.specs.declared.tree.Ty.{Ty}
 use Rattle.krml_syntax.specs.declared.tree.Ty.TheVariants as ty
 use Rattle.krml_syntax.specs.declared.tree.Field.{Field}
 use Rattle.krml_syntax.specs.declared.tree.Def.{Def}
+use Rattle.krml_ast.specs.Components.{Found, found_at}
 use Rattle.krml_ast.specs.Typing.{Vars, Scope}
-use Rattle.krml_intern.specs.Exact.{key_cmp}
 use Rattle.krml_intern.specs.Table.{Table}
 use Rattle.krml_intern.specs.Unlabelled.{IsErased}
 use Rattle.krml_types.specs.declared.applied.Applied.{Applied}
-use Rattle.krml_types.specs.declared.component.Component.{Component}
-use Rattle.krml_types.specs.declared.component.Component.TheVariants as comp
+use Rattle.krml_ast.specs.declared.component.Component.{Component}
+use Rattle.krml_ast.specs.declared.component.Component.TheVariants as comp
 use Rattle.krml_types.specs.declared.untyped.Untyped.{Untyped}
 use Rattle.krml_types.specs.declared.untyped.Untyped.TheVariants.{Fault, NoMemory}
 use Rattle.krml_types.specs.Instances.{Instance, part_at}
@@ -96,12 +95,6 @@ GivesParts t defs kind (Err NoMemory) r = Unit {0}
 
 -- ---- what is kept
 
-abbrev pub code_of : Component → ℕ
-code_of comp.Field = 0
-code_of comp.Argument = 1
-code_of comp.Parameter = 2
-code_of comp.Result = 3
-
 -- A component that was computed has the number of its type.
 pub record IsFound (t : Table) (defs : List Def) (kind : Component) (k j n : ℕ) : Type 0 where
   pub name : List ℕ
@@ -112,9 +105,9 @@ pub record IsFound (t : Table) (defs : List Def) (kind : Component) (k j n : ℕ
   pub found : IsErased t n type
 
 -- Each variable has the number of a type, and each component that was computed the number of its own.
-pub record IsJudge (defs : List Def) (t : Table) (components : BTreeMap (ℕ × (ℕ × ℕ)) ℕ) (vars : List (List ℕ × ℕ)) : Type 0 where
+pub record IsJudge (defs : List Def) (t : Table) (components : Found) (vars : List (List ℕ × ℕ)) : Type 0 where
   pub scope : AllByRecursion (λ (v : List ℕ × ℕ). (a : Ty) × IsErased t v.1 a) vars
-  pub found : (kind : Component) (k j n : ℕ) → get key_cmp components (code_of kind, (k, j)) ≡ Some n → IsFound t defs kind k j n
+  pub found : (kind : Component) (k j n : ℕ) → found_at components kind k j ≡ Some n → IsFound t defs kind k j n
 
 -- ---- patterns
 

@@ -1,4 +1,4 @@
-use crate::component::Component;
+use krml_ast::Component;
 
 /// A struct, a constructor or a function at type arguments.
 #[derive(Clone, Copy)]

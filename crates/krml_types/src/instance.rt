@@ -1,55 +1,22 @@
 //! Structs, constructors and functions at type arguments, by numbers of types.
 
-ghost use Rattle.std.specs.Prelude.{◌≡◌, map, option_map};
+ghost use Rattle.std.specs.Prelude.{◌≡◌, option_map};
 ghost use Rattle.krml_syntax.specs.declared.tree.Ty.{Ty, out-Ty};
 ghost use Rattle.krml_ast.specs.Names.{field_named};
 ghost use Rattle.krml_ast.specs.declared.kind.NameKind.{NameKind};
 ghost use Rattle.krml_intern.specs.Table.{Grows};
 ghost use Rattle.krml_intern.specs.Unlabelled.{IsErased};
-ghost use Rattle.krml_types.specs.Instances.{written, serve, make_at, con_at, call_at, field_type, make_parts, con_parts, part_type, tag_type};
+ghost use Rattle.krml_types.specs.Instances.{serve, make_at, con_at, call_at, field_type, make_parts, con_parts, part_type, tag_type};
 ghost use Rattle.krml_types.specs.Judging.{IsKnown, GivesNumber, GivesApplied, GivesParts, place_in};
 
 use crate::applied::Applied;
-use crate::component::Component;
 use crate::formed::are_arguments;
 use crate::index::Index;
 use crate::judge::Judge;
 use crate::untyped::{Untyped, demand};
+use krml_ast::Component;
 use krml_syntax::{Field, Ty};
 use krml_trace::Name;
-
-/// The type variables of the struct, constructor or function of a name, and a type that it writes, by its place among those of a
-/// kind.
-pub fn written<'a>(
-    index: &Index<'a>,
-    kind: Component,
-    x: &Name,
-    j: usize,
-) -> Option<(&'a [Name], &'a Ty)>
-    ensures { option_map (λ w. (w.0.now, w.1.now)) result ≡ written index.now kind x.now j }
-{
-    match kind {
-        Component::Field => {
-            let def = index.names().struct_named(x)?;
-            let field = def.fields.get(j)?;
-            Some((def.vars, &field.ty))
-        }
-        Component::Argument => {
-            let def = index.names().con_named(x)?;
-            let ty = def.args.get(j)?;
-            Some((def.vars, ty))
-        }
-        Component::Parameter => {
-            let def = index.names().fun_named(x)?;
-            let param = def.params.get(j)?;
-            Some((def.vars, &param.ty))
-        }
-        Component::Result => {
-            let def = index.names().fun_named(x)?;
-            Some((def.vars, def.result))
-        }
-    }
-}
 
 /// Type arguments serve for type variables.
 fn serve(index: &Index<'_>, tvars: &[Name], vars: &[Name], args: &[Ty]) -> bool

@@ -8,26 +8,20 @@ ghost use Rattle.krml_ast.specs.Typing.{look, with_vars};
 ghost use Rattle.krml_intern.specs.Scope.{are_distinct};
 ghost use Rattle.krml_intern.specs.Table.{Table, Means, Grows, head_of};
 ghost use Rattle.krml_intern.specs.Unlabelled.{IsErased};
-ghost use Rattle.krml_types.specs.Instances.{written, part_at};
-ghost use Rattle.krml_types.specs.Judging.{GivesNumber, IsKnown, IsAt, in_scope, nothing_yet, is_none, code_of};
+ghost use Rattle.krml_types.specs.Instances.{part_at};
+ghost use Rattle.krml_types.specs.Judging.{GivesNumber, IsKnown, IsAt, in_scope, nothing_yet, is_none};
 ghost use Rattle.krml_types.specs.Scopes.{cut_scope, with_frame, is_framed, slot_type};
 ghost use Rattle.krml_types.specs.Types.{is_flat};
 
-use crate::component::Component;
 use crate::index::Index;
-use crate::instance::written;
 use crate::untyped::{Untyped, demand};
+use krml_ast::{Component, Components};
 use krml_intern::{Scope, TypeTable};
 use krml_syntax::{IntTy, Slot, Ty};
 use krml_trace::{Name, NoMemory};
 use std::alloc::Global;
-use std::collections::BTreeMap;
 use std::marker::Model;
 use std::mem;
-
-/// Which component: the code of its kind, the number that has the name and the type arguments, and the place among those of the
-/// kind.
-type Key = (u8, (usize, usize));
 
 /// Where expressions are judged: the types so far by number, with those of the components of definitions that were asked for;
 /// the definitions of the file, the type variables of the definition at hand, the variables in scope with the numbers of their
@@ -36,7 +30,7 @@ type Key = (u8, (usize, usize));
 pub struct Judge<'n, 'a> {
     index: &'n Index<'a>,
     types: TypeTable<'a>,
-    components: BTreeMap<Key, usize>,
+    components: Components,
     tvars: &'a [Name],
     scope: Scope<'a>,
     frame: Option<&'a [Slot]>,
@@ -61,18 +55,6 @@ impl<'n, 'a> Model for Judge<'n, 'a> {
     ghost invariant = { λ s. IsJudge s.index.now s.types s.components s.scope };
 }
 
-/// What tells kinds of components apart.
-fn code(kind: Component) -> u8
-    ensures { result ≡ code_of kind }
-{
-    match kind {
-        Component::Field => 0,
-        Component::Argument => 1,
-        Component::Parameter => 2,
-        Component::Result => 3,
-    }
-}
-
 /// A number, where memory was there.
 fn given(k: Result<usize, NoMemory>) -> Result<usize, Untyped>
     ensures { (t : Table) (a : Ty) → IfOk k (λ n. IsErased t n a) → GivesNumber t result (Some a) }
@@ -88,7 +70,7 @@ impl<'n, 'a> Judge<'n, 'a> {
         Judge {
             index,
             types: TypeTable::new(alloc),
-            components: BTreeMap::new(alloc),
+            components: Components::new(alloc),
             tvars: &[],
             scope: Scope::new(alloc),
             frame: None,
@@ -307,19 +289,12 @@ impl<'n, 'a> Judge<'n, 'a> {
 
     // ---- components of definitions
 
-    /// The type variables of a definition, and a type that it writes, by its place among those of its kind.
-    fn written(&self, kind: Component, x: &Name, j: usize) -> Option<(&'a [Name], &'a Ty)>
-        ensures { option_map (λ w. (w.0.now, w.1.now)) result ≡ written self.now.place.defs kind x.now j }
-    {
-        written(self.index, kind, x, j)
-    }
-
     /// Whether the struct, constructor or function of a name has so many components of a kind at most.
     pub fn ends(&self, kind: Component, k: usize, j: usize) -> bool
         ensures { (x : List ℕ) (args : List Ty) → IsErased self.now.table k (t.Named x args) → result ≡ is_none (part_at self.now.place.defs kind x args j) }
     {
         match self.types.name_of(k) {
-            Some(x) => self.written(kind, x, j).is_none(),
+            Some(x) => self.index.names().written(kind, x, j).is_none(),
             None => true,
         }
     }
@@ -331,13 +306,12 @@ impl<'n, 'a> Judge<'n, 'a> {
         ensures place { self.new.place ≡ self.old.place }
         ensures grows { Grows self.old.table self.new.table }
     {
-        let key = (code(kind), (k, j));
-        if let Some(n) = self.components.get(&key).copied() {
+        if let Some(n) = self.components.get(kind, k, j) {
             return Ok(n);
         }
         let n = self.computed(kind, k, j)?;
-        match self.components.insert(key, n) {
-            Ok(_) => Ok(n),
+        match self.components.put(kind, k, j, n) {
+            Ok(()) => Ok(n),
             Err(_) => Err(Untyped::NoMemory),
         }
     }
@@ -352,7 +326,7 @@ impl<'n, 'a> Judge<'n, 'a> {
         let Some(x) = self.types.name_of(k) else {
             return Err(Untyped::Fault);
         };
-        let Some((vars, ty)) = self.written(kind, x, j) else {
+        let Some((vars, ty)) = self.index.names().written(kind, x, j) else {
             return Err(Untyped::Fault);
         };
         let args = self.types.arguments(k)?;

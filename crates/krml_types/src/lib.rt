@@ -3,7 +3,6 @@
 
 mod applied;
 mod check;
-mod component;
 mod definition;
 mod expression;
 mod formed;

@@ -10,9 +10,9 @@ ghost use Rattle.krml_types.specs.Parts.{demand};
 ghost use Rattle.krml_types.specs.Patterns.{binds, parts_bind};
 ghost use Rattle.krml_types.specs.Types.{same_ty};
 
-use crate::component::Component;
 use crate::judge::Judge;
 use crate::untyped::{Untyped, demand};
+use krml_ast::Component;
 use krml_syntax::{IntTy, Pat};
 use krml_trace::Name;
 

@@ -5,7 +5,8 @@ use Rattle.krml_syntax.specs.Types.{erased, type_at}
 use Rattle.krml_intern.specs.Table.{Means, AllMean, head_of}
 use Rattle.krml_intern.specs.Unlabelled.{AllErased}
 use Rattle.krml_types.specs.Judging.{Around, GivesNumber}
-use Rattle.krml_types.specs.Instances.{written, part_at}
+use Rattle.krml_ast.specs.Components.{written}
+use Rattle.krml_types.specs.Instances.{part_at}
 use Rattle.krml_intern.proofs.Erasing.{all_args_erased, is_erased}
 use Rattle.std.proofs.lemmas.Result.{IfOk-weaker}
 use Rattle.krml_types.proofs.Judged.{judge_still, place_still}
