@@ -4,7 +4,7 @@ pub mod Lasts
 pub mod Puts
 pub mod Tables
 pub mod Scopes
-pub mod Unlabelled
+pub mod Labels
 pub mod Layers
 pub mod Distinct
 pub mod Erasing

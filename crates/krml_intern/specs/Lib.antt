@@ -2,6 +2,7 @@ pub mod Unlabelled
 pub mod Exact
 pub mod ExactNames
 pub mod Keys
+pub mod Labels
 pub mod Parts
 pub mod Puts
 pub mod Scope

@@ -19,8 +19,8 @@ use std::marker::Model;
 /// Types by number: each type has one number, and two types have two.
 #[derive(Drop)]
 pub struct TypeTable<'a> {
-    alloc: Global,
-    names: NameTable<'a>,
+    pub(crate) alloc: Global,
+    pub(crate) names: NameTable<'a>,
     nodes: Nodes,
 }
 
@@ -51,7 +51,7 @@ impl<'a> TypeTable<'a> {
     }
 
     /// The first layer of the type of a number.
-    fn node(&self, k: usize) -> Option<Node>
+    pub(crate) fn node(&self, k: usize) -> Option<Node>
         ensures below { (x : At) → result ≡ Some x → IsBelow k x }
         ensures stands { (a : Ty) → Means self.now k a → (x : At) × (result ≡ Some x) × Stands self.now x a }
     {
@@ -93,15 +93,23 @@ impl<'a> TypeTable<'a> {
         self.put(Node::Unit)
     }
 
+    /// The number of an integer type. An error is want of memory.
+    pub fn int(&mut self, i: IntTy) -> Result<usize, NoMemory>
+        ensures value { IfOk result (λ n. Means self.new n (ty.Int i)) }
+        ensures grows { Grows self.old self.new }
+    {
+        self.put(Node::Int(i))
+    }
+
     /// The number of the public integer type of a width. An error is want of memory.
     pub fn public(&mut self, i: IntTy) -> Result<usize, NoMemory>
         ensures value { IfOk result (λ n. Means self.new n (int_ty i)) }
         ensures grows { Grows self.old self.new }
     {
-        self.put(Node::Int(IntTy {
+        self.int(IntTy {
             width: i.width,
             secret: false,
-        }))
+        })
     }
 
     /// The number of the buffers of a type. An error is want of memory.

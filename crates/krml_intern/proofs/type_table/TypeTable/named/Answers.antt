@@ -7,7 +7,7 @@ use Rattle.krml_syntax.proofs.Types.{all_at_none}
 use Rattle.krml_intern.proofs.type_table.TypeTable.named.Goals as goal
 
 pub named_at-requires : goal.named_at-requires
-named_at-requires c = record { types = []; all = record { mean = tt; erased = tt } }
+named_at-requires c = record { types = []; mean = tt }
 
 pub returns-clause-value : goal.returns-clause-value
-returns-clause-value c = IfOk-weaker c.named_at.result _ _ (λ n h. h [] (record { mean = tt; erased = tt }) ∙ ap (λ ts. Some (ty.Named c.args.x.now (map erased ts))) (all_at_none [] c.args.types.now)) c.named_at.ensures.value
+returns-clause-value c = IfOk-weaker c.named_at.result _ _ (λ n h. h [] tt ∙ ap (λ ts. Some (ty.Named c.args.x.now ts)) (all_at_none [] (map erased c.args.types.now))) c.named_at.ensures.value

@@ -1,5 +1,5 @@
 use Rattle.std.proofs.Common.{length}
-use Rattle.krml_intern.proofs.erased.+argument_of.Given as goal
+use Rattle.krml_intern.proofs.written.+argument_of.Given as goal
 
 abbrev pub decreases-argument_of : goal.decreases-argument_of
 decreases-argument_of l = length l.vars.now
