@@ -1,6 +1,5 @@
 pub mod Unlabelled
 pub mod Exact
-pub mod ExactNames
 pub mod Keys
 pub mod Labels
 pub mod Parts

@@ -15,13 +15,14 @@ pub struct NameTable<'a> {
 
 impl<'a> Model for NameTable<'a> {
     ghost use Rattle.std.specs.Prelude.{List, ℕ, map};
-    ghost use Rattle.krml_intern.specs.ExactNames.{IsExact};
+    ghost use Rattle.krml_intern.specs.Exact.{IsExact};
+    ghost use Rattle.krml_intern.specs.Scope.{has};
 
     ghost Value = { List (List ℕ) };
 
     ghost view = { λ s. map (λ x. x.now) s.items.items };
 
-    ghost invariant = { λ s. IsExact (map (λ x. x.now) s.items.items) s.places };
+    ghost invariant = { λ s. IsExact (map (λ x. x.now) s.items.items) (has s.places) };
 }
 
 impl<'a> NameTable<'a> {
