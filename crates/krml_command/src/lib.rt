@@ -10,6 +10,3 @@ mod words;
 pub use refusal::WordsRefusal;
 pub use request::{Command, Request, Settings};
 pub use words::read_words;
-
-#[cfg(test)]
-mod tests;

@@ -18,6 +18,3 @@ pub use laws::{forms_have_no_fault, one_reading, read_forms_are_writable, writte
 pub use nest::MAX_LEVELS;
 pub use read::{Reading, read_forms};
 pub use write::write_forms;
-
-#[cfg(test)]
-mod tests;

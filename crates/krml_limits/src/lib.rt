@@ -12,6 +12,3 @@ pub use excess::Excess;
 pub use first::first_excess;
 pub use law::none_exceeded;
 pub use limit::limit_of;
-
-#[cfg(test)]
-mod tests;

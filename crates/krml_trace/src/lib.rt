@@ -33,6 +33,3 @@ pub use sure_sink::SureSink;
 pub use sure_source::SureSource;
 pub use why::Why;
 pub use width::Width;
-
-#[cfg(test)]
-mod tests;

@@ -1,4 +1,4 @@
-use crate::{Command, Request, Settings, WordsRefusal, read_words};
+use krml_command::{Command, Request, Settings, WordsRefusal, read_words};
 use krml_trace::NoMemory;
 use std::alloc::Global;
 

@@ -1,5 +1,4 @@
-use crate::count::count_of;
-use crate::{Reading, read_forms, write_forms};
+use krml_forms::{Form, Reading, form_count, read_forms, write_forms};
 use krml_trace::NoMemory;
 use std::alloc::Global;
 use std::test::Fail;
@@ -22,6 +21,15 @@ fn text_of(alloc: Global, pieces: &[(&[u8], usize)]) -> Result<Vec<u8>, NoMemory
         }
     }
     Ok(text)
+}
+
+/// How many forms these have together.
+fn count_of(forms: &[Form]) -> Result<u64, NoMemory> {
+    let mut count = 0u64;
+    for form in forms {
+        count = count.saturating_add(form_count(form)?);
+    }
+    Ok(count)
 }
 
 fn is_wanted(reading: &Reading, want: Want) -> bool {

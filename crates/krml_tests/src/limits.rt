@@ -1,5 +1,5 @@
-use crate::{Excess, first_excess};
 use krml_forms::Form;
+use krml_limits::{Excess, first_excess};
 use krml_syntax::{Def, Expr, LimitKind, Ty};
 use krml_trace::{Name, NoMemory, Seq};
 use std::alloc::Global;

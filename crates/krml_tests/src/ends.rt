@@ -1,4 +1,4 @@
-use crate::{
+use krml_trace::{
     Failed, MemSink, MemSource, Name, RealSink, RealSource, Seq, Sink, SinkFault, Source, SureSink,
     SureSource, Width,
 };
