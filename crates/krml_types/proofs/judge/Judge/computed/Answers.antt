@@ -32,8 +32,10 @@ returns-clause-value c = λ x args e.
     let all : AllErased c.self.inside.types c.as_slice.result.now args = all_args_erased c.self.inside.types c.as_slice.result.now x args
     (subst (λ ks. AllMean c.self.inside.types ks args) (sym c.as_slice.ensures) (c.in_ok-args.ensures x args means)) e.plain in
     let head : Some c.in-Some.x.now ≡ head_of (out-Ty (ty.Named x args)) = ap (option_map (λ (y : Bor (List ℕ)). y.now)) (sym c.in-Some.is) ∙ c.name_of.ensures (ty.Named x args) means in
+    let defs : c.names.result.now ≡ c.args.self.now.place.defs = c.names.ensures ∙ ap (λ (s : Around). s.place.defs) c.self.view_is in
     let by : written c.args.self.now.place.defs c.args.kind c.in-Some.x.now c.args.j ≡ Some (c.in-Some-written.vars.now, c.in-Some-written.ty.now) =
-    sym c.written.ensures ∙ ap (option_map (λ (w : Bor (List (List ℕ)) × Bor Ty). (w.0.now, w.1.now))) c.in-Some-written.is in
+    subst (λ ds. written ds c.args.kind c.in-Some.x.now c.args.j ≡ Some (c.in-Some-written.vars.now, c.in-Some-written.ty.now)) defs
+    (sym c.written.ensures ∙ ap (option_map (λ (w : Bor (List (List ℕ)) × Bor Ty). (w.0.now, w.1.now))) c.in-Some-written.is) in
     let part : part_at c.args.self.now.place.defs c.args.kind x args c.args.j ≡ Some (erased (type_at c.in-Some-written.vars.now args c.in-Some-written.ty.now)) =
     part_written c.args.self.now.place.defs c.args.kind x args c.args.j c.in-Some-written.vars.now c.in-Some-written.ty.now
     (subst (λ y. written c.args.self.now.place.defs c.args.kind y c.args.j ≡ Some (c.in-Some-written.vars.now, c.in-Some-written.ty.now)) (head_name c.in-Some.x.now x args head) by) in
