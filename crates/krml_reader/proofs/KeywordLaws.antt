@@ -1,5 +1,6 @@
 -- Keywords and how they are written.
-use Rattle.std.proofs.Common.{◌≡◌, ℕ, Bool, true, false, cond, List, [], ◌∷◌, Some, refl, ap, ◌∙◌, ◌⊎◌, inl, inr}
+use Rattle.std.proofs.Common.{◌≡◌, ℕ, ◌<◌, ◌≤◌, Bool, true, false, cond, ◌==◌, List, [], ◌∷◌, length, slice_index_or, None, Some, refl, ap, ◌∙◌, ◌⊎◌, inl, inr, arith}
+use Rattle.std.specs.List.{filter}
 use Rattle.std.specs.Str.{bytes_eq}
 use Rattle.std.proofs.lemmas.Slice.Eq.{bytes_eq-Decides}
 use Rattle.krml_trace.specs.declared.width.Width.{Width}
@@ -14,7 +15,7 @@ use Rattle.krml_syntax.specs.declared.tree.CmpOp.{CmpOp}
 use Rattle.krml_syntax.specs.declared.tree.CmpOp.TheVariants as cmpop
 use Rattle.krml_reader.specs.declared.keyword.Keyword.{Keyword}
 use Rattle.krml_reader.specs.declared.keyword.Keyword.TheVariants as k
-use Rattle.krml_reader.specs.Keyword.{spelling, keywords, public, secret, first_of_those, keyword_of, keyword_in, keyword_at}
+use Rattle.krml_reader.specs.Keyword.{spelling, keywords, public, secret, first_of_those, begins, beginning, keyword_of, keyword_in, keyword_at}
 
 -- no keyword is written as another
 
@@ -132,3 +133,31 @@ keyword_is f c e = go (out-Form f) refl e
     go : (x : Form-F Form) → out-Form f ≡ x → keyword_in x ≡ Some c → f ≡ Atom (spelling c)
     go (Form-F.Atom w) o h = is_atom f w o ∙ ap Atom (word_is w c h)
     go (Form-F.List fs) o h = absurd (cc)
+
+-- a word that begins with a byte is looked for among the keywords that begin with it
+
+differ : (b : ℕ) (bs w : List ℕ) → begins b w ≡ false → bytes_eq (b ∷ bs) w ≡ false
+differ b bs [] e = refl
+differ b bs (c ∷ cs) e = rw e refl
+
+abbrev begun : ℕ → List Keyword → List Keyword
+begun b cs = filter (λ c. begins b (spelling c)) cs
+
+among : (b : ℕ) (bs : List ℕ) (cs : List Keyword) → first_of_those (begun b cs) (b ∷ bs) ≡ first_of_those cs (b ∷ bs)
+among b bs [] = refl
+among b bs (c ∷ cs) = go (begins b (spelling c)) refl (among b bs cs)
+  where
+    go : (t : Bool) → begins b (spelling c) ≡ t → first_of_those (begun b cs) (b ∷ bs) ≡ first_of_those cs (b ∷ bs)
+        → first_of_those (cond t (c ∷ begun b cs) (begun b cs)) (b ∷ bs) ≡ first_of_those (c ∷ cs) (b ∷ bs)
+    go true e rest = ap (λ found. cond (bytes_eq (b ∷ bs) (spelling c)) (Some c) found) rest
+    go false e rest = rw (differ b bs (spelling c) e) rest
+
+pub begun_with : (w : List ℕ) → 1 ≤ length w → first_of_those (beginning (slice_index_or w 0 0)) w ≡ keyword_of w
+unfolding beginning keyword_of
+begun_with [] l = absurd (omega arith)
+begun_with (b ∷ bs) l = among b bs keywords
+
+pub none_of_nothing : (w : List ℕ) → length w < 1 → None ≡ keyword_of w
+unfolding keyword_of
+none_of_nothing [] l = refl
+none_of_nothing (b ∷ bs) l = absurd (omega arith)

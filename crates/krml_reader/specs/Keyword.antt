@@ -1,5 +1,6 @@
 -- The words of the language.
-use Rattle.std.specs.Prelude.{ℕ, true, false, if◌then◌else◌, List, [], ◌∷◌, codes, Option, Some, None}
+use Rattle.std.specs.Prelude.{ℕ, Bool, true, false, if◌then◌else◌, ◌==◌, List, [], ◌∷◌, codes, Option, Some, None}
+use Rattle.std.specs.List.{filter}
 use Rattle.std.specs.Str.{bytes_eq}
 use Rattle.krml_trace.specs.declared.width.Width.{Width}
 use Rattle.krml_trace.specs.declared.width.Width.TheVariants.{W8, W32, W64}
@@ -59,6 +60,15 @@ keywords =
 abbrev pub first_of_those : List Keyword → List ℕ → Option Keyword
 first_of_those [] w = None
 first_of_those (c ∷ cs) w = if bytes_eq w (spelling c) then Some c else first_of_those cs w
+
+-- whether a word begins with a byte
+abbrev pub begins : ℕ → List ℕ → Bool
+begins b [] = false
+begins b (c ∷ cs) = b == c
+
+-- the keywords whose words begin with a byte
+unfoldable pub beginning : ℕ → List Keyword
+beginning b = filter (λ c. begins b (spelling c)) keywords
 
 -- the keyword that a word is
 unfoldable pub keyword_of : List ℕ → Option Keyword

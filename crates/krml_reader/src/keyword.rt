@@ -1,5 +1,5 @@
 ghost use Rattle.std.specs.Prelude.{◌≡◌};
-ghost use Rattle.krml_reader.specs.Keyword.{spelling, first_of_those, keyword_of, keyword_at};
+ghost use Rattle.krml_reader.specs.Keyword.{spelling, first_of_those, beginning, keyword_of, keyword_at};
 
 use krml_forms::Form;
 use krml_syntax::{BinOp, CmpOp, IntTy, bin_word, bool_word, cmp_word, int_word, shift_word};
@@ -43,79 +43,35 @@ pub enum Keyword {
     Unit,
 }
 
-const KEYWORDS: [Keyword; 53] = [
-    Keyword::Int(IntTy {
-        width: Width::W8,
-        secret: false,
-    }),
-    Keyword::Int(IntTy {
-        width: Width::W32,
-        secret: false,
-    }),
-    Keyword::Int(IntTy {
-        width: Width::W64,
-        secret: false,
-    }),
-    Keyword::Int(IntTy {
-        width: Width::W8,
-        secret: true,
-    }),
-    Keyword::Int(IntTy {
-        width: Width::W32,
-        secret: true,
-    }),
-    Keyword::Int(IntTy {
-        width: Width::W64,
-        secret: true,
-    }),
-    Keyword::Truth(true),
-    Keyword::Truth(false),
-    Keyword::Bin(BinOp::Add),
-    Keyword::Bin(BinOp::Sub),
-    Keyword::Bin(BinOp::Mul),
-    Keyword::Bin(BinOp::Div),
-    Keyword::Bin(BinOp::Rem),
-    Keyword::Bin(BinOp::And),
-    Keyword::Bin(BinOp::Or),
-    Keyword::Bin(BinOp::Xor),
-    Keyword::Bin(BinOp::EqMask),
-    Keyword::Bin(BinOp::GteMask),
-    Keyword::Shift(true),
-    Keyword::Shift(false),
-    Keyword::Cmp(CmpOp::Eq),
-    Keyword::Cmp(CmpOp::Ne),
-    Keyword::Cmp(CmpOp::Lt),
-    Keyword::Cmp(CmpOp::Le),
-    Keyword::Cmp(CmpOp::Gt),
-    Keyword::Cmp(CmpOp::Ge),
-    Keyword::Not,
-    Keyword::Cast,
-    Keyword::Hide,
-    Keyword::Make,
-    Keyword::Get,
-    Keyword::Con,
-    Keyword::Read,
-    Keyword::Write,
-    Keyword::Slice,
-    Keyword::Tab,
-    Keyword::If,
-    Keyword::Match,
-    Keyword::Do,
-    Keyword::Frame,
-    Keyword::Alloc,
-    Keyword::While,
-    Keyword::For,
-    Keyword::Call,
-    Keyword::Let,
-    Keyword::Struct,
-    Keyword::Sum,
-    Keyword::Table,
-    Keyword::Fun,
-    Keyword::Entry,
-    Keyword::Buf,
-    Keyword::Boolean,
-    Keyword::Unit,
-];
+const U8: Keyword = Keyword::Int(IntTy {
+    width: Width::W8,
+    secret: false,
+});
+
+const U32: Keyword = Keyword::Int(IntTy {
+    width: Width::W32,
+    secret: false,
+});
+
+const U64: Keyword = Keyword::Int(IntTy {
+    width: Width::W64,
+    secret: false,
+});
+
+const SU8: Keyword = Keyword::Int(IntTy {
+    width: Width::W8,
+    secret: true,
+});
+
+const SU32: Keyword = Keyword::Int(IntTy {
+    width: Width::W32,
+    secret: true,
+});
+
+const SU64: Keyword = Keyword::Int(IntTy {
+    width: Width::W64,
+    secret: true,
+});
 
 fn spelling(keyword: Keyword) -> &'static [u8]
     ensures { result.now ≡ spelling keyword }
@@ -167,12 +123,75 @@ fn first_of_those(keywords: &[Keyword], word: &[u8]) -> Option<Keyword>
     None
 }
 
+/// The keywords whose words begin with a byte.
+#[tactic(auto, unfolding(crate::specs::Keyword::beginning))]
+fn beginning(first: u8) -> &'static [Keyword]
+    ensures { result.now ≡ beginning first }
+{
+    match first {
+        b'a' => &[
+            Keyword::Bin(BinOp::Add),
+            Keyword::Bin(BinOp::And),
+            Keyword::Alloc,
+        ],
+        b'b' => &[Keyword::Buf, Keyword::Boolean],
+        b'c' => &[Keyword::Cast, Keyword::Con, Keyword::Call],
+        b'd' => &[Keyword::Bin(BinOp::Div), Keyword::Do],
+        b'e' => &[
+            Keyword::Bin(BinOp::EqMask),
+            Keyword::Cmp(CmpOp::Eq),
+            Keyword::Entry,
+        ],
+        b'f' => &[
+            Keyword::Truth(false),
+            Keyword::Frame,
+            Keyword::For,
+            Keyword::Fun,
+        ],
+        b'g' => &[
+            Keyword::Bin(BinOp::GteMask),
+            Keyword::Cmp(CmpOp::Gt),
+            Keyword::Cmp(CmpOp::Ge),
+            Keyword::Get,
+        ],
+        b'h' => &[Keyword::Hide],
+        b'i' => &[Keyword::If],
+        b'l' => &[
+            Keyword::Cmp(CmpOp::Lt),
+            Keyword::Cmp(CmpOp::Le),
+            Keyword::Let,
+        ],
+        b'm' => &[Keyword::Bin(BinOp::Mul), Keyword::Make, Keyword::Match],
+        b'n' => &[Keyword::Cmp(CmpOp::Ne), Keyword::Not],
+        b'o' => &[Keyword::Bin(BinOp::Or)],
+        b'r' => &[Keyword::Bin(BinOp::Rem), Keyword::Read],
+        b's' => &[
+            SU8,
+            SU32,
+            SU64,
+            Keyword::Bin(BinOp::Sub),
+            Keyword::Shift(true),
+            Keyword::Shift(false),
+            Keyword::Slice,
+            Keyword::Struct,
+            Keyword::Sum,
+        ],
+        b't' => &[Keyword::Truth(true), Keyword::Tab, Keyword::Table],
+        b'u' => &[U8, U32, U64, Keyword::Unit],
+        b'w' => &[Keyword::Write, Keyword::While],
+        b'x' => &[Keyword::Bin(BinOp::Xor)],
+        _ => &[],
+    }
+}
+
 /// The keyword that a word is.
-#[tactic(auto, unfolding(crate::specs::Keyword::keyword_of))]
 pub fn keyword_of(word: &[u8]) -> Option<Keyword>
     ensures { result ≡ keyword_of word.now }
 {
-    first_of_those(&KEYWORDS, word)
+    match word {
+        [first, ..] => first_of_those(beginning(*first), word),
+        [] => None,
+    }
 }
 
 /// The keyword that a form is.
