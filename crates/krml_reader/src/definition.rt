@@ -7,6 +7,7 @@ use crate::expression::expr_at;
 use crate::keyword::{Keyword, keyword_at};
 use crate::name::name_at;
 use crate::no_tree::NoTree;
+use crate::room::room_for;
 use crate::types::{ty_at, tys_of};
 use crate::words::{int_at, number_of_width, var_at};
 use krml_forms::Form;
@@ -21,7 +22,7 @@ const MAX_INNER_LEVELS: u32 = 63;
 fn vars_of(alloc: Global, forms: &[Form]) -> Result<Seq<Name>, NoTree>
     ensures { Gives result (vars_of forms.now) }
 {
-    let mut vars = Seq::new(alloc);
+    let mut vars = room_for(alloc, forms)?;
     for form in forms {
         vars.push(var_at(alloc, form)?)?;
     }
@@ -71,7 +72,7 @@ fn field_at(alloc: Global, levels: u32, form: &Form) -> Result<Field, NoTree>
 fn fields_of(alloc: Global, levels: u32, forms: &[Form]) -> Result<Seq<Field>, NoTree>
     ensures { Gives result (fields_of levels forms.now) }
 {
-    let mut fields = Seq::new(alloc);
+    let mut fields = room_for(alloc, forms)?;
     for form in forms {
         fields.push(field_at(alloc, levels, form)?)?;
     }
@@ -130,7 +131,7 @@ fn con_at(alloc: Global, levels: u32, form: &Form) -> Result<Con, NoTree>
 fn cons_of(alloc: Global, levels: u32, forms: &[Form]) -> Result<Seq<Con>, NoTree>
     ensures { Gives result (cons_of levels forms.now) }
 {
-    let mut cons = Seq::new(alloc);
+    let mut cons = room_for(alloc, forms)?;
     for form in forms {
         cons.push(con_at(alloc, levels, form)?)?;
     }
@@ -142,7 +143,7 @@ fn cons_of(alloc: Global, levels: u32, forms: &[Form]) -> Result<Seq<Con>, NoTre
 fn numbers_of(alloc: Global, width: Width, forms: &[Form]) -> Result<Seq<u64>, NoTree>
     ensures { Gives result (each_of (number_of_width width) forms.now) }
 {
-    let mut numbers = Seq::new(alloc);
+    let mut numbers = room_for(alloc, forms)?;
     for form in forms {
         let Some(number) = number_of_width(width, form) else {
             return Err(NoTree::Unspelled);

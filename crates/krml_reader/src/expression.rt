@@ -6,6 +6,7 @@ use crate::keyword::{Keyword, keyword_at};
 use crate::name::{name_at, name_of};
 use crate::no_tree::NoTree;
 use crate::pattern::pat_at;
+use crate::room::room_for;
 use crate::types::{ty_at, tys_at};
 use crate::words::{int_at, length_at, number_of_width};
 use krml_forms::Form;
@@ -284,7 +285,7 @@ fn applied(alloc: Global, levels: u32, rest: &[Form]) -> Result<(Name, Seq<Ty>, 
 fn exprs_of(alloc: Global, levels: u32, forms: &[Form]) -> Result<Seq<Expr>, NoTree>
     ensures { Gives result (each_of (expr_at levels) forms.now) }
 {
-    let mut exprs = Seq::new(alloc);
+    let mut exprs = room_for(alloc, forms)?;
     for form in forms {
         exprs.push(expr_at(alloc, levels, form)?)?;
     }
@@ -358,7 +359,7 @@ fn branches(alloc: Global, levels: u32, rest: &[Form]) -> Result<Expr, NoTree>
 fn arms_of(alloc: Global, levels: u32, forms: &[Form]) -> Result<Seq<Arm>, NoTree>
     ensures { Gives result (each_of (arm_at levels) forms.now) }
 {
-    let mut arms = Seq::new(alloc);
+    let mut arms = room_for(alloc, forms)?;
     for form in forms {
         arms.push(arm_at(alloc, levels, form)?)?;
     }
@@ -429,7 +430,7 @@ fn sequence(alloc: Global, levels: u32, rest: &[Form]) -> Result<Expr, NoTree>
 fn items_of(alloc: Global, levels: u32, forms: &[Form]) -> Result<Seq<Item>, NoTree>
     ensures { Gives result (each_of (item_at levels) forms.now) }
 {
-    let mut items = Seq::new(alloc);
+    let mut items = room_for(alloc, forms)?;
     for form in forms {
         items.push(item_at(alloc, levels, form)?)?;
     }

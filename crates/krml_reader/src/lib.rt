@@ -9,6 +9,7 @@ mod no_tree;
 mod pattern;
 mod read;
 mod refusal;
+mod room;
 mod types;
 mod words;
 mod written;

@@ -5,6 +5,7 @@ ghost use Rattle.krml_reader.specs.Pattern.{bound_of, word_by, atom_of, number_o
 use crate::keyword::{Keyword, keyword_at, keyword_of};
 use crate::name::{name_at, name_of};
 use crate::no_tree::NoTree;
+use crate::room::room_for;
 use crate::words::number_of_width;
 use krml_forms::Form;
 use krml_syntax::{IntTy, Pat};
@@ -109,7 +110,7 @@ fn make(alloc: Global, levels: u32, rest: &[Form]) -> Result<Pat, NoTree>
 fn pats_of(alloc: Global, levels: u32, forms: &[Form]) -> Result<Seq<Pat>, NoTree>
     ensures { Gives result (pats_of levels forms.now) }
 {
-    let mut pats = Seq::new(alloc);
+    let mut pats = room_for(alloc, forms)?;
     for form in forms {
         pats.push(pat_at(alloc, levels, form)?)?;
     }

@@ -5,6 +5,7 @@ ghost use Rattle.krml_reader.specs.Types.{named_of, word_of, variable_of, atom_o
 use crate::keyword::{Keyword, keyword_at, keyword_of};
 use crate::name::{name_at, name_of};
 use crate::no_tree::NoTree;
+use crate::room::room_for;
 use krml_forms::Form;
 use krml_syntax::Ty;
 use krml_trace::{Box, Seq, both};
@@ -112,7 +113,7 @@ fn applied(alloc: Global, levels: u32, head: &Form, rest: &[Form]) -> Result<Ty,
 pub fn tys_of(alloc: Global, levels: u32, forms: &[Form]) -> Result<Seq<Ty>, NoTree>
     ensures { Gives result (tys_of levels forms.now) }
 {
-    let mut tys = Seq::new(alloc);
+    let mut tys = room_for(alloc, forms)?;
     for form in forms {
         tys.push(ty_at(alloc, levels, form)?)?;
     }
