@@ -12,7 +12,6 @@ ghost use Rattle.krml_reader.specs.Read.{Reads, IsRead, IsRefused};
 use crate::definition::def_at;
 use crate::no_tree::NoTree;
 use crate::refusal::ReadRefusal;
-use crate::room::room_for;
 use krml_forms::{Form, Reading, one_reading, read_forms};
 use krml_limits::{Excess, first_excess};
 use krml_syntax::{Def, SourceFile};
@@ -49,7 +48,7 @@ fn add_def(alloc: Global, defs: &mut Seq<Def>, form: &Form) -> Result<(), ReadRe
 fn defs_of(alloc: Global, forms: &[Form]) -> Result<Seq<Def>, ReadRefusal>
     ensures { Answers result (defs_of forms.now) }
 {
-    let mut defs = room_for(alloc, forms)?;
+    let mut defs = Seq::new(alloc);
     for form in forms {
         add_def(alloc, &mut defs, form)?;
     }
