@@ -1,3 +1,5 @@
+//! The words of the language.
+
 ghost use Rattle.std.specs.Prelude.{◌≡◌};
 ghost use Rattle.krml_reader.specs.Keyword.{spelling, first_of_those, beginning, keyword_of, keyword_at};
 

@@ -1,3 +1,5 @@
+//! Lists with room for what forms spell.
+
 ghost use Rattle.std.specs.Prelude.{◌≡◌, [], IfOk};
 
 use krml_forms::Form;
