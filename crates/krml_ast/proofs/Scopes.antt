@@ -2,7 +2,7 @@
 use Rattle.std.proofs.Common.{◌≡◌, ℕ, ◌-◌, List, ◌++◌, length, take, drop, reverse, sym, ap, ◌∙◌, arith}
 use Rattle.std.proofs.lemmas.List.{take-append-drop, reverse-append, length-reverse, length-drop, length-append, drop_at}
 use Rattle.krml_ast.specs.Typing.{Vars}
-use Rattle.krml_ast.specs.Vars.{cut}
+use Rattle.krml_intern.specs.Scope.{cut}
 
 -- what is kept of a list, the last first
 pub kept : {A : Type 0} (n : ℕ) (xs : List A) → reverse (take n xs) ≡ drop (length (reverse xs) - n) (reverse xs)

@@ -7,5 +7,4 @@ pub mod Names
 pub mod Pieces
 pub mod Places
 pub mod Typing
-pub mod Vars
 pub mod WellTyped

@@ -1,6 +1,6 @@
 ghost use Rattle.std.specs.Prelude.{◌≡◌, ◌∷◌, [], ◌++◌, ◌-◌, IfOk, OnOk, length, reverse};
 ghost use Rattle.krml_ast.specs.Typing.{look};
-ghost use Rattle.krml_ast.specs.Vars.{cut, is_new, are_distinct};
+ghost use Rattle.krml_intern.specs.Scope.{cut, is_new, are_distinct};
 
 use crate::types::clone_ty;
 use krml_syntax::Ty;
