@@ -1,13 +1,11 @@
 -- Steps of the checks of lists: what the items of a block add is cut off behind it, and one case more.
-use Rattle.std.proofs.Common.{◌≡◌, ℕ, ◌+◌, ◌<◌, ◌&&◌, List, [], ◌∷◌, ◌++◌, map, length, drop, get_or, Option, Some, refl, sym, ap, ◌∙◌, append_assoc}
-use Rattle.std.proofs.lemmas.List.{drop_more}
+use Rattle.std.proofs.Common.{◌≡◌, ℕ, ◌&&◌, List, [], ◌∷◌, ◌++◌, map, length, Some, refl, sym, ap, ◌∙◌, append_assoc}
 use Rattle.krml_syntax.specs.declared.tree.Arm.{Arm}
 use Rattle.krml_syntax.specs.declared.tree.Case.{Case}
 use Rattle.krml_syntax.specs.declared.tree.Item.{Item, out-Item}
 use Rattle.krml_syntax.specs.declared.tree.Expr.{Expr}
 use Rattle.krml_syntax.specs.declared.tree.Expr.TheOpen.{Item-F}
 use Rattle.krml_syntax.specs.declared.tree.Expr.TheFolds.{fold_out-Item, map-Item}
-use Rattle.krml_syntax.specs.declared.tree.Ty.{Ty}
 use Rattle.krml_syntax.specs.declared.tree.Ty.TheVariants as t
 use Rattle.krml_syntax.specs.declared.tree.Def.{Def}
 use Rattle.krml_syntax.specs.Types.{erased}
@@ -16,7 +14,7 @@ use Rattle.krml_syntax.proofs.Only.{Only, only_some, only_then, only_more}
 use Rattle.krml_types.specs.Types.{is_type}
 use Rattle.krml_types.specs.Parts.{is_value}
 use Rattle.krml_types.specs.Scopes.{cut_scope}
-use Rattle.krml_types.specs.Expressions.{Comp, ItemComp, ArmComp, has, items_from, joined, cases_from, item_step, type_of, item_of, arm_of, case_of}
+use Rattle.krml_types.specs.Expressions.{Comp, ItemComp, ArmComp, has, items_from, item_step, type_of, item_of, arm_of, case_of}
 use Rattle.krml_types.proofs.Parts.{only_demand, only_at}
 use Rattle.krml_types.proofs.Scopes.{cut_back}
 

@@ -1,24 +1,18 @@
 -- Judges whose types, scopes and components grow.
 use Prim.Native.Nat.{zero, suc}
-use Rattle.std.proofs.Common.{◌≡◌, ℕ, ◌-◌, Bool, true, false, cond, if◌then◌else◌, List, [], ◌∷◌, length, drop, take, map, get_or, Option, Some, Ok, Bor, refl, sym, ap, subst, ◌∙◌}
+use Rattle.std.proofs.Common.{◌≡◌, ℕ, ◌-◌, Bool, true, false, if◌then◌else◌, List, [], ◌∷◌, length, drop, take, map, get_or, Option, Some, Ok, Bor, refl, sym, ap, subst, ◌∙◌}
 use Rattle.std.specs.List.{AllByRecursion}
 use Rattle.std.specs.Option.{option_copied}
-use Rattle.std.specs.Ordering.{nat_cmp}
-use Rattle.std.specs.Cmp.{Equal-is}
 use Rattle.std.specs.Str.{bytes_eq}
-use Rattle.std.proofs.lemmas.Map.Lookups.{CmpEqualImpliesEq, exact_pairs, exact_unsigned}
 use Rattle.std.proofs.lemmas.Option.{get_or_from_slice_get}
 use Rattle.std.proofs.lemmas.List.{length-map}
 use Rattle.krml_syntax.specs.declared.tree.Ty.{Ty, out-Ty}
 use Rattle.krml_syntax.specs.declared.tree.Ty.TheVariants as ty
 use Rattle.krml_syntax.specs.declared.tree.Ty.TheOpen.{Ty-F}
-use Rattle.krml_syntax.specs.declared.tree.Ty.TheFolds.{fold_out-Ty}
 use Rattle.krml_syntax.specs.declared.tree.Slot.{Slot}
 use Rattle.krml_syntax.specs.declared.tree.Def.{Def}
-use Rattle.krml_syntax.specs.Types.{erased, level_erased}
-use Rattle.krml_intern.specs.Exact.{key_cmp}
 use Rattle.krml_intern.specs.Scope.{look, cut, is_new, are_distinct}
-use Rattle.krml_intern.specs.Table.{Table, Means, Grows}
+use Rattle.krml_intern.specs.Table.{Table, Grows}
 use Rattle.krml_intern.specs.Unlabelled.{IsErased}
 use Rattle.krml_intern.proofs.Erasing.{is_erased_still, one_meaning}
 use Rattle.krml_ast.specs.declared.component.Component.{Component}

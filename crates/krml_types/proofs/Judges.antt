@@ -1,7 +1,5 @@
 -- What the tests of numbers tell of types.
 use Rattle.std.proofs.Common.{◌≡◌, ℕ, Bool, true, false, not, ◌&&◌, List, Option, Some, None, Ok, refl, sym, ap, ◌∙◌}
-use Rattle.std.specs.BTreeMap.{BTreeMap, is_at}
-use Rattle.std.specs.Map.{lookup}
 use Rattle.std.specs.Option.{ok_or, is_some}
 use Rattle.krml_syntax.specs.declared.tree.Ty.{Ty, out-Ty}
 use Rattle.krml_syntax.specs.declared.tree.Ty.TheVariants as ty
@@ -10,7 +8,6 @@ use Rattle.krml_syntax.specs.declared.tree.Def.{Def}
 use Rattle.krml_syntax.specs.Read.{◌>>=◌}
 use Rattle.krml_syntax.specs.Types.{erased, type_at, is_unit_in, element_of}
 use Rattle.krml_ast.specs.Typing.{at}
-use Rattle.krml_intern.specs.Exact.{key_cmp}
 use Rattle.krml_intern.specs.Unlabelled.{IsErased}
 use Rattle.krml_intern.specs.Table.{Table, Grows, IsNumber, head_of}
 use Rattle.krml_intern.proofs.Erasing.{element_plain, is_erased_still}

@@ -1,13 +1,12 @@
 -- Steps of the checker, where types are known by number.
 use Prim.Native.Nat.{zero, suc}
-use Rattle.std.proofs.Common.{◌≡◌, ℕ, ◌+◌, ◌<◌, Bool, true, false, List, [], ◌∷◌, length, drop, map, get_or, slice_get, Option, Some, None, Result, Ok, Err, refl, sym, ap, subst, ◌∙◌}
+use Rattle.std.proofs.Common.{◌≡◌, ℕ, ◌+◌, ◌<◌, Bool, true, false, List, [], ◌∷◌, length, drop, map, get_or, slice_get, Option, Some, None, Result, Err, refl, sym, ap, subst, ◌∙◌}
 use Rattle.std.specs.Bool.{Decides}
 use Rattle.std.proofs.lemmas.List.{drop_more}
 use Rattle.std.proofs.lemmas.Option.{slice_get_within, get_or_from_slice_get}
 use Rattle.krml_syntax.specs.declared.tree.Ty.{Ty, out-Ty, roll-Ty, roll-out-Ty}
 use Rattle.krml_syntax.specs.declared.tree.Ty.TheOpen.{Ty-F}
 use Rattle.krml_syntax.specs.declared.tree.Ty.TheVariants as ty
-use Rattle.krml_syntax.specs.declared.tree.Def.{Def}
 use Rattle.krml_syntax.specs.Read.{◌>>=◌}
 use Rattle.krml_syntax.specs.Types.{is_unit_in}
 use Rattle.krml_ast.specs.Typing.{Scope}

@@ -13,7 +13,6 @@ use Rattle.krml_syntax.specs.Types.{erased, int_ty, u32, element_of}
 use Rattle.krml_ast.specs.Typing.{in_frame}
 use Rattle.krml_intern.specs.Table.{Table}
 use Rattle.krml_types.specs.declared.untyped.Untyped.{Untyped}
-use Rattle.krml_types.specs.declared.untyped.Untyped.TheVariants.{Fault, NoMemory}
 use Rattle.krml_types.specs.Expressions.{has, one_type, two_type, read_type, write_type, slice_type, frame_type, alloc_type, fill_type, may_alloc, is_result, binary_step, access_step, frame_step, type_of, layer_of}
 use Rattle.krml_types.specs.Gives.{Gives}
 use Rattle.krml_types.specs.Judging.{Place, GivesNumber, in_scope}

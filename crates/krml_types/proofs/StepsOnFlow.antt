@@ -20,7 +20,7 @@ use Rattle.krml_types.specs.declared.untyped.Untyped.{Untyped}
 use Rattle.krml_types.specs.declared.untyped.Untyped.TheVariants.{Fault, NoMemory}
 use Rattle.krml_types.specs.Expressions.{Comp, has, one_type, are_tests, items_from, flow_step, loop_step, turn_type, let_type, layer_of, type_of, item_of, case_of}
 use Rattle.krml_types.specs.Gives.{Gives}
-use Rattle.krml_types.specs.Judging.{Place, GivesNumber, Leads, in_scope}
+use Rattle.krml_types.specs.Judging.{Place, Leads, in_scope}
 use Rattle.krml_types.specs.Parts.{demand, is_value}
 use Rattle.krml_types.specs.Types.{is_type}
 use Rattle.krml_types.proofs.LayersOfForms.{if_layer, do_layer, while_layer, for_layer}

@@ -12,7 +12,6 @@ use Rattle.krml_intern.specs.Table.{Table}
 use Rattle.krml_intern.specs.Unlabelled.{IsErased}
 use Rattle.krml_types.specs.declared.applied.Applied.{Applied}
 use Rattle.krml_ast.specs.declared.component.Component.{Component}
-use Rattle.krml_ast.specs.declared.component.Component.TheVariants as comp
 use Rattle.krml_types.specs.declared.untyped.Untyped.{Untyped}
 use Rattle.krml_types.specs.declared.untyped.Untyped.TheVariants.{Fault, NoMemory}
 use Rattle.krml_types.specs.Instances.{Instance, part_at}
