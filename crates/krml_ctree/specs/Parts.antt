@@ -23,10 +23,10 @@ pub record CBlock : Type 0 where
   pub items : List (Option CValue)
 
 abbrev pub CState : Type 0
-CState = State CEvent CBlock
+CState = State CEvent (List CBlock)
 
 abbrev pub CRan : Type 0 → Type 0
-CRan A = Ran CEvent CBlock A
+CRan A = Ran CEvent (List CBlock) A
 
 -- A parameter, a variable or an array in scope: its type, its value where it has one, and whether it is an array, whose
 -- value is the pointer to its first element.

@@ -22,10 +22,10 @@ pub record Block : Type 0 where
   pub items : List Value
 
 abbrev pub SourceState : Type 0
-SourceState = State SourceEvent Block
+SourceState = State SourceEvent (List Block)
 
 abbrev pub SourceRan : Type 0 → Type 0
-SourceRan A = Ran SourceEvent Block A
+SourceRan A = Ran SourceEvent (List Block) A
 
 -- the variables in scope, the newest first
 abbrev pub Variables : Type 0

@@ -5,6 +5,6 @@ use Rattle.krml_trace.specs.Run.{State, Ran, ends}
 
 -- What a call means with so many levels left: what its body means, where the calls in that are one level deeper. A call for
 -- which no level is left ends the run.
-abbrev pub within : {E B X A : Type 0} → ((X → State E B → Ran E B A) → X → State E B → Ran E B A) → ℕ → X → State E B → Ran E B A
+abbrev pub within : {E M X A : Type 0} → ((X → State E M → Ran E M A) → X → State E M → Ran E M A) → ℕ → X → State E M → Ran E M A
 within body zero x s = ends Deep s
 within body (suc levels) x s = body (within body levels) x s

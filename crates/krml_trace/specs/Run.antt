@@ -1,4 +1,4 @@
--- Runs under a bound, for events of any type E and blocks of any type B: what the meaning of each language is made of.
+-- Runs under a bound, for events of any type E and memory of any type M: what the meaning of each language is made of.
 -- A step takes a state. It goes on with a value and the next state, or it ends the run, and the events up to there stay.
 use Rattle.std.specs.Prelude.{ℕ, zero, suc, Bool, true, false, List, ◌∷◌, reverse, Option, Some, None}
 use Rattle.krml_trace.specs.declared.outcome.Outcome.{Outcome}
@@ -6,47 +6,47 @@ use Rattle.krml_trace.specs.declared.outcome.Outcome.TheVariants as outcome
 use Rattle.krml_trace.specs.declared.why.Why.{Why}
 use Rattle.krml_trace.specs.declared.why.Why.TheVariants as why
 
--- The ticks that are left, the blocks of memory by their numbers, and the events so far, the newest first.
-pub record State (E B : Type 0) : Type 0 where
+-- The ticks that are left, the language's memory, and the events so far, the newest first.
+pub record State (E M : Type 0) : Type 0 where
   pub ticks : ℕ
-  pub memory : List B
+  pub memory : M
   pub events : List E
 
 -- A step went on with a value, or ended the run.
-pub data Ran (E B A : Type 0) : Type 0 where
-  Goes : A → State E B → Ran E B A
-  Ends : Why → List E → Ran E B A
+pub data Ran (E M A : Type 0) : Type 0 where
+  Goes : A → State E M → Ran E M A
+  Ends : Why → List E → Ran E M A
 
 -- One step and then another, which has the value of the first.
-abbrev pub bind : {E B A A' : Type 0} → Ran E B A → (A → State E B → Ran E B A') → Ran E B A'
+abbrev pub bind : {E M A A' : Type 0} → Ran E M A → (A → State E M → Ran E M A') → Ran E M A'
 bind (Goes a s) next = next a s
 bind (Ends w es) next = Ends w es
 
 -- the state with an event more
-abbrev pub leave : {E B : Type 0} → E → State E B → State E B
+abbrev pub leave : {E M : Type 0} → E → State E M → State E M
 leave e s = record s { events = e ∷ s.events }
 
 -- the run ends here
-abbrev pub ends : {E B A : Type 0} → Why → State E B → Ran E B A
+abbrev pub ends : {E M A : Type 0} → Why → State E M → Ran E M A
 ends w s = Ends w s.events
 
 -- goes on with what is there, and ends where there is nothing
-abbrev pub with_some : {E B A X : Type 0} → Why → Option X → State E B → (X → Ran E B A) → Ran E B A
+abbrev pub with_some : {E M A X : Type 0} → Why → Option X → State E M → (X → Ran E M A) → Ran E M A
 with_some w None s next = ends w s
 with_some w (Some x) s next = next x
 
 -- goes on where the test holds
-abbrev pub check : {E B A : Type 0} → Why → Bool → State E B → Ran E B A → Ran E B A
+abbrev pub check : {E M A : Type 0} → Why → Bool → State E M → Ran E M A → Ran E M A
 check w true s next = next
 check w false s next = ends w s
 
 -- one of n ticks
-abbrev pub spend : {E B A : Type 0} → ℕ → State E B → (State E B → Ran E B A) → Ran E B A
+abbrev pub spend : {E M A : Type 0} → ℕ → State E M → (State E M → Ran E M A) → Ran E M A
 spend zero s next = ends why.Spent s
 spend (suc n) s next = next (record s { ticks = n })
 
 -- A tick is spent. Where none is left, the run ends.
-abbrev pub tick : {E B A : Type 0} → State E B → (State E B → Ran E B A) → Ran E B A
+abbrev pub tick : {E M A : Type 0} → State E M → (State E M → Ran E M A) → Ran E M A
 tick s next = spend s.ticks s next
 
 abbrev pub ended : Why → Outcome
@@ -57,12 +57,12 @@ ended why.Undefined = outcome.Undefined
 ended why.Trapped = outcome.Trapped
 
 -- The outcome of a run: `done` says what it is where the run goes on to its end.
-abbrev pub outcome_of : {E B A : Type 0} → (A → State E B → Outcome) → Ran E B A → Outcome
+abbrev pub outcome_of : {E M A : Type 0} → (A → State E M → Outcome) → Ran E M A → Outcome
 outcome_of done (Goes a s) = done a s
 outcome_of done (Ends w es) = ended w
 
 -- The events of a run, the oldest first.
-abbrev pub events_of : {E B A : Type 0} → Ran E B A → List E
+abbrev pub events_of : {E M A : Type 0} → Ran E M A → List E
 events_of (Goes a s) = reverse s.events
 events_of (Ends w es) = reverse es
 
