@@ -1,72 +1,70 @@
 -- Two runs side by side: a run of a target does what a run of a source does, unless the source is stuck.
--- What the target's events and memory are, is a function of the source's. So the target's state is the image of the
--- source's, and both have the same ticks: two loops of as many turns need no fact about their number.
-use Rattle.std.proofs.Common.{◌≡◌, ℕ, zero, suc, Bool, true, false, if◌then◌else◌, List, Option, Some, None, refl}
+-- It is the following of runs (`Follows`) where want of ticks and of levels is kept, the second run does not trap, and its memory is a
+-- function of the first's. So the target's state is the image of the source's, and both have the same ticks.
+use Rattle.std.proofs.Common.{◌≡◌, ℕ, zero, suc, Bool, true, false, if◌then◌else◌, List, Option, Some, None, refl, sym}
 use Rattle.krml_trace.specs.declared.outcome.Cause.{Cause}
+use Rattle.krml_trace.specs.declared.why.Why.{Why}
 use Rattle.krml_trace.specs.declared.why.Why.TheVariants as why
 use Rattle.krml_trace.specs.Run.{State, Ran, Goes, Ends, bind, with_some, check, spend, tick}
 use Rattle.krml_trace.specs.After.{After}
 use Rattle.krml_trace.specs.Loop.{Turn, Again, Over, turned, turns, loop}
+use Rattle.krml_trace.specs.Follows.{Shares, Never, beside, Follows}
 use Rattle.krml_trace.proofs.After.{Turned}
+use Rattle.krml_trace.proofs.Follows as follow
 
--- What events, the newest first, and what memory become.
+-- What events, the newest first, and memory become.
 pub record Image (E M E' M' : Type 0) : Type 0 where
   pub events : List E → List E'
-  pub memory : List B → List B'
+  pub memory : M → M'
 
 -- What a state becomes.
 abbrev pub image_state : {E M E' M' : Type 0} → Image E M E' M' → State E M → State E' M'
-image_state im s = record { ticks = s.ticks; memory = im.memory s.memory; events = im.events s.events }
+image_state im s = beside im.events s (im.memory s.memory)
 
--- A run goes on in the image of a state, with a value that stands to the source's as R says.
-pub record Went {E M E' M' A A' : Type 0} (im : Image E M E' M') (R : A → A' → Type 0) (a : A) (s : State E M) (r : Ran E' M' A') : Type 0 where
-  pub to : A'
-  pub is : r ≡ Goes to (image_state im s)
-  pub holds : R a to
+-- the ends that are kept: not those of a run that is stuck
+abbrev pub unless_stuck : Why → Bool
+unless_stuck why.Spent = true
+unless_stuck why.Deep = true
+unless_stuck (why.Stuck c) = false
+unless_stuck why.Undefined = false
+unless_stuck why.Trapped = false
+
+abbrev pub shared : {E M E' M' : Type 0} → Image E M E' M' → Shares E E'
+shared im = record { keeps = unless_stuck; events = im.events; traps = Never }
+
+-- The second memory is the image of the first's, and the values stand to one another as R says.
+pub record InImage {E M E' M' A A' : Type 0} (im : Image E M E' M') (R : A → A' → Type 0) (a : A) (s : State E M) (b : A') (m : M') : Type 0 where
+  pub memory : m ≡ im.memory s.memory
+  pub value : R a b
 
 -- The second run does what the first does. Nothing is said where the first is stuck.
 abbrev pub Simulates : {E M E' M' A A' : Type 0} → Image E M E' M' → (A → A' → Type 0) → Ran E M A → Ran E' M' A' → Type 0
-Simulates im R (Goes a s) r = Went im R a s r
-Simulates im R (Ends why.Spent es) r = r ≡ Ends why.Spent (im.events es)
-Simulates im R (Ends why.Deep es) r = r ≡ Ends why.Deep (im.events es)
-Simulates im R (Ends (why.Stuck c) es) r = Unit {0}
-Simulates im R (Ends why.Undefined es) r = Unit {0}
-Simulates im R (Ends why.Trapped es) r = Unit {0}
+Simulates im R r r' = Follows (shared im) (InImage im R) r r'
 
 module _ {E M E' M' : Type 0} (im : Image E M E' M') where
+  -- what is shown of the image of a state is shown of each memory beside it that is the image
+  in_image : {A A' C C' : Type 0} (R : A → A' → Type 0) (Q : C → C' → Type 0) (r : Ran E M C) (go' : A' → State E' M' → Ran E' M' C') (a : A) (s : State E M) (b : A') (m : M')
+      → InImage im R a s b m → (R a b → Simulates im Q r (go' b (image_state im s))) → Simulates im Q r (go' b (beside im.events s m))
+  in_image R Q r go' a s b m i k = rw i.memory (k i.value)
+
   -- both go on
   pub goes : {A A' : Type 0} (R : A → A' → Type 0) (a : A) (b : A') (s : State E M) → R a b → Simulates im R (Goes a s) (Goes b (image_state im s))
-  goes R a b s h = record { to = b; is = refl; holds = h }
+  goes R a b s h = follow.follows_goes (shared im) (InImage im R) a s b (im.memory s.memory) (record { memory = refl; value = h })
 
   -- both have a further step
   pub sim_bind : {A A' C C' : Type 0} (R : A → A' → Type 0) (Q : C → C' → Type 0) (r : Ran E M A) (r' : Ran E' M' A') (go : A → State E M → Ran E M C) (go' : A' → State E' M' → Ran E' M' C')
       → Simulates im R r r' → ((a : A) (b : A') (s : State E M) → R a b → Simulates im Q (go a s) (go' b (image_state im s))) → Simulates im Q (bind r go) (bind r' go')
-  sim_bind R Q (Goes a s) r' go go' h k = rw h.is (k a h.to s h.holds)
-  sim_bind R Q (Ends why.Spent es) r' go go' h k = rw h
-  sim_bind R Q (Ends why.Deep es) r' go go' h k = rw h
-  sim_bind R Q (Ends (why.Stuck c) es) r' go go' h k = tt
-  sim_bind R Q (Ends why.Undefined es) r' go go' h k = tt
-  sim_bind R Q (Ends why.Trapped es) r' go go' h k = tt
+  sim_bind R Q r r' go go' h k = follow.follows_bind (shared im) (InImage im R) (InImage im Q) r r' go go' (λ a s. tt) h (λ a s b m i. in_image R Q (go a s) go' a s b m i (k a b s))
 
   -- only the source has a further step
   pub sim_last : {A A' C : Type 0} (R : A → A' → Type 0) (Q : C → A' → Type 0) (r : Ran E M A) (r' : Ran E' M' A') (go : A → State E M → Ran E M C)
       → Simulates im R r r' → ((a : A) (b : A') (s : State E M) → R a b → Simulates im Q (go a s) (Goes b (image_state im s))) → Simulates im Q (bind r go) r'
-  sim_last R Q (Goes a s) r' go h k = rw h.is (k a h.to s h.holds)
-  sim_last R Q (Ends why.Spent es) r' go h k = h
-  sim_last R Q (Ends why.Deep es) r' go h k = h
-  sim_last R Q (Ends (why.Stuck c) es) r' go h k = tt
-  sim_last R Q (Ends why.Undefined es) r' go h k = tt
-  sim_last R Q (Ends why.Trapped es) r' go h k = tt
+  sim_last R Q r r' go h k = follow.follows_last (shared im) (InImage im R) (InImage im Q) r r' go (λ a s. tt) h (λ a s b m i. in_image R Q (go a s) (λ b s. Goes b s) a s b m i (k a b s))
 
   -- only the target has a further step
   pub sim_more : {A A' C' : Type 0} (R : A → A' → Type 0) (Q : A → C' → Type 0) (r : Ran E M A) (r' : Ran E' M' A') (go' : A' → State E' M' → Ran E' M' C')
       → Simulates im R r r' → ((a : A) (b : A') (s : State E M) → R a b → Simulates im Q (Goes a s) (go' b (image_state im s))) → Simulates im Q r (bind r' go')
-  sim_more R Q (Goes a s) r' go' h k = rw h.is (k a h.to s h.holds)
-  sim_more R Q (Ends why.Spent es) r' go' h k = rw h
-  sim_more R Q (Ends why.Deep es) r' go' h k = rw h
-  sim_more R Q (Ends (why.Stuck c) es) r' go' h k = tt
-  sim_more R Q (Ends why.Undefined es) r' go' h k = tt
-  sim_more R Q (Ends why.Trapped es) r' go' h k = tt
+  sim_more R Q r r' go' h k = follow.follows_more (shared im) (InImage im R) (InImage im Q) r r' go' h (λ a s b m i. in_image R Q (Goes a s) go' a s b m i (k a b s))
 
   -- the target's last step gives back what it has
   pub sim_end : {A A' : Type 0} (Q : A → A' → Type 0) (r : Ran E M A) (r' : Ran E' M' A') → Simulates im Q r r' → Simulates im Q r (bind r' (λ b s. Goes b s))
@@ -81,52 +79,36 @@ module _ {E M E' M' : Type 0} (im : Image E M E' M') where
   -- both spend a tick
   pub sim_tick : {A A' : Type 0} (Q : A → A' → Type 0) (s : State E M) (go : State E M → Ran E M A) (go' : State E' M' → Ran E' M' A')
       → ((s : State E M) → Simulates im Q (go s) (go' (image_state im s))) → Simulates im Q (tick s go) (tick (image_state im s) go')
-  sim_tick Q s go go' k = at s.ticks
-    where
-      at : (n : ℕ) → Simulates im Q (spend n s go) (spend n (image_state im s) go')
-      at zero = refl
-      at (suc n) = k (record s { ticks = n })
+  sim_tick Q s go go' k = follow.follows_tick (shared im) (InImage im Q) s (im.memory s.memory) go go' (λ n. k (record s { ticks = n }))
+
+  -- with what is known of the source's own run
+  known : {A A' : Type 0} (P : A → State E M → Type 0) (R : A → A' → Type 0) (r : Ran E M A) (r' : Ran E' M' A') → After P r → Simulates im R r r'
+      → Follows (shared im) (λ a s b m. P a s × InImage im R a s b m) r r'
+  known P R r r' p h = follow.follows_after (shared im) P (InImage im R) r r' p h
 
 -- The same with what is known of the source's own run, which is handed on: that is where the soundness of its typing comes in.
 module _ {E M E' M' : Type 0} (im : Image E M E' M') where
   pub sim_bind_after : {A A' C C' : Type 0} (P : A → State E M → Type 0) (R : A → A' → Type 0) (Q : C → C' → Type 0) (r : Ran E M A) (r' : Ran E' M' A')
       (go : A → State E M → Ran E M C) (go' : A' → State E' M' → Ran E' M' C') → After P r → Simulates im R r r'
       → ((a : A) (b : A') (s : State E M) → P a s → R a b → Simulates im Q (go a s) (go' b (image_state im s))) → Simulates im Q (bind r go) (bind r' go')
-  sim_bind_after P R Q (Goes a s) r' go go' p h k = rw h.is (k a h.to s p h.holds)
-  sim_bind_after P R Q (Ends why.Spent es) r' go go' p h k = rw h
-  sim_bind_after P R Q (Ends why.Deep es) r' go go' p h k = rw h
-  sim_bind_after P R Q (Ends (why.Stuck c) es) r' go go' p h k = tt
-  sim_bind_after P R Q (Ends why.Undefined es) r' go go' p h k = tt
-  sim_bind_after P R Q (Ends why.Trapped es) r' go go' p h k = tt
+  sim_bind_after P R Q r r' go go' p h k = follow.follows_bind (shared im) (λ a s b m. P a s × InImage im R a s b m) (InImage im Q) r r' go go' (λ a s. tt) (known im P R r r' p h)
+      (λ a s b m i. in_image im R Q (go a s) go' a s b m i.1 (k a b s i.0))
 
   pub sim_last_after : {A A' C : Type 0} (P : A → State E M → Type 0) (R : A → A' → Type 0) (Q : C → A' → Type 0) (r : Ran E M A) (r' : Ran E' M' A')
       (go : A → State E M → Ran E M C) → After P r → Simulates im R r r'
       → ((a : A) (b : A') (s : State E M) → P a s → R a b → Simulates im Q (go a s) (Goes b (image_state im s))) → Simulates im Q (bind r go) r'
-  sim_last_after P R Q (Goes a s) r' go p h k = rw h.is (k a h.to s p h.holds)
-  sim_last_after P R Q (Ends why.Spent es) r' go p h k = h
-  sim_last_after P R Q (Ends why.Deep es) r' go p h k = h
-  sim_last_after P R Q (Ends (why.Stuck c) es) r' go p h k = tt
-  sim_last_after P R Q (Ends why.Undefined es) r' go p h k = tt
-  sim_last_after P R Q (Ends why.Trapped es) r' go p h k = tt
+  sim_last_after P R Q r r' go p h k = follow.follows_last (shared im) (λ a s b m. P a s × InImage im R a s b m) (InImage im Q) r r' go (λ a s. tt) (known im P R r r' p h)
+      (λ a s b m i. in_image im R Q (go a s) (λ b s. Goes b s) a s b m i.1 (k a b s i.0))
 
   pub sim_more_after : {A A' C' : Type 0} (P : A → State E M → Type 0) (R : A → A' → Type 0) (Q : A → C' → Type 0) (r : Ran E M A) (r' : Ran E' M' A')
       (go' : A' → State E' M' → Ran E' M' C') → After P r → Simulates im R r r'
       → ((a : A) (b : A') (s : State E M) → P a s → R a b → Simulates im Q (Goes a s) (go' b (image_state im s))) → Simulates im Q r (bind r' go')
-  sim_more_after P R Q (Goes a s) r' go' p h k = rw h.is (k a h.to s p h.holds)
-  sim_more_after P R Q (Ends why.Spent es) r' go' p h k = rw h
-  sim_more_after P R Q (Ends why.Deep es) r' go' p h k = rw h
-  sim_more_after P R Q (Ends (why.Stuck c) es) r' go' p h k = tt
-  sim_more_after P R Q (Ends why.Undefined es) r' go' p h k = tt
-  sim_more_after P R Q (Ends why.Trapped es) r' go' p h k = tt
+  sim_more_after P R Q r r' go' p h k = follow.follows_more (shared im) (λ a s b m. P a s × InImage im R a s b m) (InImage im Q) r r' go' (known im P R r r' p h)
+      (λ a s b m i. in_image im R Q (Goes a s) go' a s b m i.1 (k a b s i.0))
 
   -- the values stand to one another in a weaker way
   pub sim_so : {A A' : Type 0} (R Q : A → A' → Type 0) (r : Ran E M A) (r' : Ran E' M' A') → Simulates im R r r' → ((a : A) (b : A') → R a b → Q a b) → Simulates im Q r r'
-  sim_so R Q (Goes a s) r' h k = record { to = h.to; is = h.is; holds = k a h.to h.holds }
-  sim_so R Q (Ends why.Spent es) r' h k = h
-  sim_so R Q (Ends why.Deep es) r' h k = h
-  sim_so R Q (Ends (why.Stuck c) es) r' h k = tt
-  sim_so R Q (Ends why.Undefined es) r' h k = tt
-  sim_so R Q (Ends why.Trapped es) r' h k = tt
+  sim_so R Q r r' h k = follow.follows_so (shared im) (InImage im R) (InImage im Q) r r' h (λ a s b m i. record { memory = i.memory; value = k a b i.value })
 
   -- where there is nothing, or the test fails, the source is stuck
   pub sim_found : {A A' X : Type 0} (Q : A → A' → Type 0) (c : Cause) (o : Option X) (s : State E M) (go : X → Ran E M A) (r' : Ran E' M' A')
@@ -142,8 +124,7 @@ module _ {E M E' M' : Type 0} (im : Image E M E' M') where
   -- both take the same branch
   pub sim_if : {A A' : Type 0} (Q : A → A' → Type 0) (b : Bool) (r u : Ran E M A) (r' u' : Ran E' M' A') → (b ≡ true → Simulates im Q r r') → (b ≡ false → Simulates im Q u u')
       → Simulates im Q (if b then r else u) (if b then r' else u')
-  sim_if Q true r u r' u' h k = h refl
-  sim_if Q false r u r' u' h k = k refl
+  sim_if Q b r u r' u' h k = follow.follows_if (shared im) (InImage im Q) b r u r' u' h k
 
 -- Loops side by side. Each turn of the source keeps I, and each turn of the target does what the source's does.
 module _ {E M E' M' X X' A A' : Type 0} (im : Image E M E' M') (R : X → X' → Type 0) (Q : A → A' → Type 0) where
@@ -158,34 +139,23 @@ module _ {E M E' M' X X' A A' : Type 0} (im : Image E M E' M') (R : X → X' →
       (on : (x : X) (s : State E M) (n : ℕ) → I x s → I x (record s { ticks = n }))
       (kept : (x : X) (s : State E M) → I x s → After (Turned I (λ a s. Unit {0})) (turn x s))
       (each : (x : X) (y : X') (s : State E M) → I x s → R x y → Simulates im BothTurned (turn x s) (turn' y (image_state im s))) where
-    turned_sim : (n : ℕ) → ((x : X) (y : X') (s : State E M) → I x s → R x y → Simulates im Q (turns n turn x s) (turns n turn' y (image_state im s)))
-        → (t : Turn X A) (t' : Turn X' A') (s : State E M) → Turned I (λ a s. Unit {0}) t s → BothTurned t t'
-        → Simulates im Q (turned t (turns n turn) s) (turned t' (turns n turn') (image_state im s))
-    turned_sim n k (Again x) (Again y) s i h = spent s.ticks
-      where
-        spent : (m : ℕ) → Simulates im Q (spend m s (turns n turn x)) (spend m (image_state im s) (turns n turn' y))
-        spent zero = refl
-        spent (suc m) = k x y (record s { ticks = m }) (on x s m i) h
-    turned_sim n k (Over a) (Over b) s i h = goes im Q a b s h
-    turned_sim n k (Again x) (Over b) s i h = absurd h
-    turned_sim n k (Over a) (Again y) s i h = absurd h
+    -- the next turn's start in the image, with what the source keeps
+    abbrev Starts : X → State E M → X' → M' → Type 0
+    Starts x s y m = I x s × InImage im R x s y m
 
-    turns_sim : (n : ℕ) (x : X) (y : X') (s : State E M) → I x s → R x y → Simulates im Q (turns n turn x s) (turns n turn' y (image_state im s))
-    turns_sim zero x y s i h = refl
-    turns_sim (suc n) x y s i h = sim_bind_after im (Turned I (λ a s. Unit {0})) BothTurned Q (turn x s) (turn' y (image_state im s)) _ _ (kept x s i) (each x y s i h)
-        (λ t t' s1 i1 h1. turned_sim n (turns_sim n) t t' s1 i1 h1)
+    both : (t : Turn X A) (s : State E M) (t' : Turn X' A') (m : M') → Turned I (λ a s. Unit {0}) t s × InImage im BothTurned t s t' m
+        → follow.BothTurned (shared im) Starts (InImage im Q) turn turn' t s t' m
+    both (Again x) s (Again y) m h = (h.0, record { memory = h.1.memory; value = h.1.value })
+    both (Over a) s (Over b) m h = record { memory = h.1.memory; value = h.1.value }
+    both (Again x) s (Over b) m h = absurd h.1.value
+    both (Over a) s (Again y) m h = absurd h.1.value
+
+    turn_follows : (x : X) (s : State E M) (y : X') (m : M') → Starts x s y m
+        → Follows (shared im) (follow.BothTurned (shared im) Starts (InImage im Q) turn turn') (turn x s) (turn' y (beside im.events s m))
+    turn_follows x s y m h = follow.follows_so (shared im) _ (follow.BothTurned (shared im) Starts (InImage im Q) turn turn') (turn x s) (turn' y (beside im.events s m))
+        (known im (Turned I (λ a s. Unit {0})) BothTurned (turn x s) (turn' y (beside im.events s m)) (kept x s h.0)
+          (in_image im R BothTurned (turn x s) turn' x s y m h.1 (each x y s h.0))) both
 
     pub loop_sim : (x : X) (y : X') (s : State E M) → I x s → R x y → Simulates im Q (loop turn x s) (loop turn' y (image_state im s))
-    loop_sim x y s i h = turns_sim (suc s.ticks) x y s i h
-
--- Steps in a row.
-module _ {E M : Type 0} where
-  -- in whatever way they are grouped
-  pub bind_bind : {A C D : Type 0} (r : Ran E M A) (f : A → State E M → Ran E M C) (g : C → State E M → Ran E M D) → bind (bind r f) g ≡ bind r (λ a s. bind (f a s) g)
-  bind_bind (Goes a s) f g = refl
-  bind_bind (Ends w es) f g = refl
-
-  -- and with steps that do the same
-  pub bind_same : {A C : Type 0} (r : Ran E M A) (f g : A → State E M → Ran E M C) → ((a : A) (s : State E M) → f a s ≡ g a s) → bind r f ≡ bind r g
-  bind_same (Goes a s) f g h = h a s
-  bind_same (Ends w es) f g h = refl
+    loop_sim x y s i h = follow.loops_follow (shared im) Starts (InImage im Q) turn turn' (λ x s y m n k. (on x s n k.0, record { memory = k.1.memory; value = k.1.value })) (λ n t s. tt) turn_follows
+        x s y (im.memory s.memory) (i, record { memory = refl; value = h })

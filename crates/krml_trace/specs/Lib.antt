@@ -1,6 +1,7 @@
 pub mod After
 pub mod Argument
 pub mod Byte
+pub mod Follows
 pub mod Levels
 pub mod Loop
 pub mod Memory
