@@ -2,7 +2,9 @@ pub mod After
 pub mod Argument
 pub mod Byte
 pub mod Follows
+pub mod Gives
 pub mod Levels
+pub mod Limits
 pub mod Loop
 pub mod Memory
 pub mod Name

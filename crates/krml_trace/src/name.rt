@@ -1,4 +1,7 @@
+//! Names.
+
 ghost use Rattle.std.specs.Prelude.{◌≡◌, IfOk};
+ghost use Rattle.std.specs.Str.{bytes_eq};
 
 use sqlite_items::Items;
 use std::alloc::{AllocError, Global};
@@ -32,5 +35,19 @@ impl Name {
         ensures { result.now ≡ self.now }
     {
         self.bytes.as_slice()
+    }
+
+    /// Whether the other name has the same bytes.
+    pub fn is(&self, other: &Name) -> bool
+        ensures { result ≡ bytes_eq self.now other.now }
+    {
+        self.as_bytes() == other.as_bytes()
+    }
+
+    /// The name once more.
+    pub fn copy(&self, alloc: Global) -> Result<Name, AllocError>
+        ensures { IfOk result (λ name. name ≡ self.now) }
+    {
+        Name::new(alloc, self.as_bytes())
     }
 }
