@@ -11,7 +11,7 @@ pub fn field_named<'a>(fields: &'a [Field], x: &Name) -> Option<&'a Ty>
     let [field, rest @ ..] = fields else {
         return None;
     };
-    if field.name.as_bytes() == x.as_bytes() {
+    if field.name.is(x) {
         Some(&field.ty)
     } else {
         field_named(rest, x)

@@ -193,7 +193,7 @@ fn args_in<'a>(cons: &'a [Con], x: &Name) -> Option<&'a [Ty]>
     ensures { option_map (λ args. args.now) result ≡ con_in cons.now x.now }
 {
     for con in cons {
-        if con.name.as_bytes() == x.as_bytes() {
+        if con.name.is(x) {
             return Some(con.args.as_slice());
         }
     }

@@ -20,7 +20,7 @@ pub(crate) fn buffer(alloc: Global, element: Result<Ty, NoMemory>) -> Result<Ty,
 fn variable(alloc: Global, x: &Name) -> Result<Ty, NoMemory>
     ensures { IfOk result (λ r. r ≡ Var x.now) }
 {
-    Ok(Ty::Var(Name::new(alloc, x.as_bytes())?))
+    Ok(Ty::Var(x.copy(alloc)?))
 }
 
 /// The struct or sum of a name at type arguments.
@@ -32,7 +32,7 @@ pub(crate) fn named(
     ensures { IfOk result (λ r. IsOkAnd args (λ args. r ≡ Named x.now args)) }
 {
     let args = args?;
-    Ok(Ty::Named(Name::new(alloc, x.as_bytes())?, args))
+    Ok(Ty::Named(x.copy(alloc)?, args))
 }
 
 /// A copy of a type.
@@ -72,7 +72,7 @@ fn argument_of(alloc: Global, vars: &[Name], args: &[Ty], x: &Name) -> Result<Ty
     let [a, args @ ..] = args else {
         return variable(alloc, x);
     };
-    if v.as_bytes() == x.as_bytes() {
+    if v.is(x) {
         return clone_ty(alloc, a);
     }
     argument_of(alloc, vars, args, x)

@@ -5,7 +5,7 @@ ghost use Rattle.std.specs.List.{flat_map};
 ghost use Rattle.krml_bundle.specs.Bundled.{field_bundled, param_bundled, con_bundled, def_bundled, names_of_def};
 
 use crate::expressions::expr_bundled;
-use crate::new_names::{copied, emitted_field, emitted_fun, emitted_table, emitted_type};
+use crate::new_names::{emitted_field, emitted_fun, emitted_table, emitted_type};
 use crate::types::{ty_bundled, types_bundled};
 use krml_ast::Emitted;
 use krml_syntax::{Con, Def, Field};
@@ -18,7 +18,7 @@ fn each_copied(alloc: Global, names: &[Name]) -> Result<Seq<Name>, NoMemory>
 {
     let mut all = Seq::new(alloc);
     for x in names {
-        all.push(copied(alloc, x)?)?;
+        all.push(x.copy(alloc)?)?;
     }
     Ok(all)
 }
@@ -43,7 +43,7 @@ fn params_bundled(alloc: Global, params: &[Field]) -> Result<Seq<Field>, NoMemor
     let mut all = Seq::new(alloc);
     for param in params {
         let ty = ty_bundled(alloc, &param.ty)?;
-        let name = copied(alloc, &param.name)?;
+        let name = param.name.copy(alloc)?;
         all.push(Field { name, ty })?;
     }
     Ok(all)
@@ -56,7 +56,7 @@ fn cons_bundled(alloc: Global, cons: &[Con]) -> Result<Seq<Con>, NoMemory>
     let mut all = Seq::new(alloc);
     for con in cons {
         let args = types_bundled(alloc, con.args.as_slice())?;
-        let name = copied(alloc, &con.name)?;
+        let name = con.name.copy(alloc)?;
         all.push(Con { name, args })?;
     }
     Ok(all)
@@ -119,7 +119,7 @@ pub(crate) fn names_of(alloc: Global, defs: &[Def]) -> Result<Seq<Emitted>, NoMe
     let mut all = Seq::new(alloc);
     for def in defs {
         if let Def::Entry { name } = def {
-            let entry = copied(alloc, name)?;
+            let entry = name.copy(alloc)?;
             let name = emitted_fun(alloc, name)?;
             all.push(Emitted { entry, name })?;
         }

@@ -3,7 +3,7 @@
 ghost use Rattle.std.specs.Prelude.{◌≡◌, IfOk, map};
 ghost use Rattle.krml_bundle.specs.Bundled.{expr_bundled, item_bundled, arm_bundled, case_bundled};
 
-use crate::new_names::{copied, emitted_field, emitted_fun, emitted_table, emitted_type};
+use crate::new_names::{emitted_field, emitted_fun, emitted_table, emitted_type};
 use crate::patterns::pat_bundled;
 use crate::types::{slots_bundled, ty_bundled, types_bundled};
 use krml_syntax::{Arm, Case, Expr, Item};
@@ -16,7 +16,7 @@ pub(crate) fn expr_bundled(alloc: Global, e: &Expr) -> Result<Expr, NoMemory>
     ensures { IfOk result (λ r. r ≡ expr_bundled e.now) }
 {
     match e {
-        Expr::Var(x) => Ok(Expr::Var(copied(alloc, x)?)),
+        Expr::Var(x) => Ok(Expr::Var(x.copy(alloc)?)),
         Expr::Unit => Ok(Expr::Unit),
         Expr::Bool(b) => Ok(Expr::Bool(*b)),
         Expr::Num(i, n) => Ok(Expr::Num(*i, *n)),
@@ -50,7 +50,7 @@ pub(crate) fn expr_bundled(alloc: Global, e: &Expr) -> Result<Expr, NoMemory>
         Expr::Con(x, args, es) => {
             let args = types_bundled(alloc, args.as_slice())?;
             let es = exprs_bundled(alloc, es.as_slice())?;
-            Ok(Expr::Con(copied(alloc, x)?, args, es))
+            Ok(Expr::Con(x.copy(alloc)?, args, es))
         }
         Expr::Read(a, i) => {
             let a = boxed(alloc, a)?;
@@ -107,7 +107,7 @@ pub(crate) fn expr_bundled(alloc: Global, e: &Expr) -> Result<Expr, NoMemory>
             let a = boxed(alloc, a)?;
             let b = boxed(alloc, b)?;
             let body = boxed(alloc, body)?;
-            Ok(Expr::For(copied(alloc, x)?, a, b, body))
+            Ok(Expr::For(x.copy(alloc)?, a, b, body))
         }
         Expr::Call(x, args, es) => {
             let args = types_bundled(alloc, args.as_slice())?;
@@ -117,11 +117,11 @@ pub(crate) fn expr_bundled(alloc: Global, e: &Expr) -> Result<Expr, NoMemory>
         Expr::Cases(cases) => Ok(Expr::Cases(cases_bundled(alloc, cases.as_slice())?)),
         Expr::TagIs(x, a) => {
             let a = boxed(alloc, a)?;
-            Ok(Expr::TagIs(copied(alloc, x)?, a))
+            Ok(Expr::TagIs(x.copy(alloc)?, a))
         }
         Expr::Part(x, j, a) => {
             let a = boxed(alloc, a)?;
-            Ok(Expr::Part(copied(alloc, x)?, *j, a))
+            Ok(Expr::Part(x.copy(alloc)?, *j, a))
         }
         Expr::Fill(k, a) => Ok(Expr::Fill(*k, boxed(alloc, a)?)),
     }
@@ -191,7 +191,7 @@ fn item_bundled(alloc: Global, item: &Item) -> Result<Item, NoMemory>
 {
     match item {
         Item::Let(x, ty, e) => {
-            let x = copied(alloc, x)?;
+            let x = x.copy(alloc)?;
             let ty = ty_bundled(alloc, ty)?;
             Ok(Item::Let(x, ty, expr_bundled(alloc, e)?))
         }

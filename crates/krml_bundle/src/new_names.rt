@@ -92,10 +92,3 @@ pub(crate) fn emitted_field(alloc: Global, x: &Name) -> Result<Name, NoMemory>
 {
     with_prefix(alloc, b"m", x.as_bytes())
 }
-
-/// A copy of a name.
-pub(crate) fn copied(alloc: Global, x: &Name) -> Result<Name, NoMemory>
-    ensures { IfOk result (λ r. r ≡ x.now) }
-{
-    Name::new(alloc, x.as_bytes())
-}

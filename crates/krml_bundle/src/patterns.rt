@@ -3,7 +3,7 @@
 ghost use Rattle.std.specs.Prelude.{◌≡◌, IfOk, map};
 ghost use Rattle.krml_bundle.specs.Bundled.{pat_bundled};
 
-use crate::new_names::{copied, emitted_type};
+use crate::new_names::emitted_type;
 use krml_syntax::Pat;
 use krml_trace::{NoMemory, Seq};
 use std::alloc::Global;
@@ -15,12 +15,12 @@ pub(crate) fn pat_bundled(alloc: Global, pat: &Pat) -> Result<Pat, NoMemory>
 {
     match pat {
         Pat::Any => Ok(Pat::Any),
-        Pat::Bind(x) => Ok(Pat::Bind(copied(alloc, x)?)),
+        Pat::Bind(x) => Ok(Pat::Bind(x.copy(alloc)?)),
         Pat::Bool(b) => Ok(Pat::Bool(*b)),
         Pat::Num(i, n) => Ok(Pat::Num(*i, *n)),
         Pat::Con(x, pats) => {
             let pats = pats_bundled(alloc, pats.as_slice())?;
-            Ok(Pat::Con(copied(alloc, x)?, pats))
+            Ok(Pat::Con(x.copy(alloc)?, pats))
         }
         Pat::Make(x, pats) => {
             let pats = pats_bundled(alloc, pats.as_slice())?;

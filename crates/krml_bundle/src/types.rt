@@ -3,7 +3,7 @@
 ghost use Rattle.std.specs.Prelude.{◌≡◌, IfOk, map};
 ghost use Rattle.krml_bundle.specs.Bundled.{ty_bundled, slot_bundled};
 
-use crate::new_names::{copied, emitted_type};
+use crate::new_names::emitted_type;
 use krml_syntax::{Slot, Ty};
 use krml_trace::{Box, NoMemory, Seq};
 use std::alloc::Global;
@@ -21,7 +21,7 @@ pub(crate) fn ty_bundled(alloc: Global, a: &Ty) -> Result<Ty, NoMemory>
             let b = ty_bundled(alloc, b.get())?;
             Ok(Ty::Buf(Box::new(alloc, b)?))
         }
-        Ty::Var(x) => Ok(Ty::Var(copied(alloc, x)?)),
+        Ty::Var(x) => Ok(Ty::Var(x.copy(alloc)?)),
         Ty::Named(x, args) => {
             let args = types_bundled(alloc, args.as_slice())?;
             Ok(Ty::Named(emitted_type(alloc, x)?, args))

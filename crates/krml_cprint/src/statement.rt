@@ -6,13 +6,13 @@ ghost use Rattle.krml_ctree.specs.Text.{as_text, closing, ended, array, arm, ifs
 ghost use Rattle.krml_cprint.specs.Printing.{arm_of, arm_words, test_line, loop_end};
 
 use crate::expression::between;
-use crate::layout::{inner_level, line, margin};
+use crate::layout::{line, margin};
 use crate::simple::{
     blank, declaration, division, read, read_table, result_of_call, run, set, write,
 };
 use crate::types::array;
 use krml_ctree::{CArm, CArray, CExpr, CStatement};
-use krml_trace::NoMemory;
+use krml_trace::{NoMemory, one_more};
 
 /// Writes what stands before a test: the first has no branch before it.
 fn keywords(out: &mut Vec<u8>, before: usize) -> Result<(), NoMemory>
@@ -37,9 +37,9 @@ fn test_line(out: &mut Vec<u8>, before: usize, test: &CExpr, level: u32) -> Resu
 fn loop_end(out: &mut Vec<u8>, level: u32) -> Result<(), NoMemory>
     ensures { OnOk result (out.new.items ≡ out.old.items ++ loop_end level) }
 {
-    let inner = inner_level(level)?;
+    let inner = one_more(level)?;
     line(out, b"} else {", inner)?;
-    line(out, b"break;", inner_level(inner)?)?;
+    line(out, b"break;", one_more(inner)?)?;
     line(out, b"}", inner)?;
     line(out, b"}", level)
 }
@@ -61,7 +61,7 @@ fn opened(out: &mut Vec<u8>, locals: &[CArray], level: u32) -> Result<(), NoMemo
     ensures { OnOk result (out.new.items ≡ out.old.items ++ (as_text.line level (codes "{") ++ flat_map (λ a. ended as_text (level + 1) (array as_text a)) locals.now)) }
 {
     line(out, b"{", level)?;
-    arrays(out, locals, inner_level(level)?)
+    arrays(out, locals, one_more(level)?)
 }
 
 /// Writes a statement.
@@ -100,7 +100,7 @@ fn statement(out: &mut Vec<u8>, s: &CStatement, level: u32) -> Result<(), NoMemo
 fn inside(out: &mut Vec<u8>, body: &[CStatement], level: u32) -> Result<(), NoMemory>
     ensures { OnOk result (out.new.items ≡ out.old.items ++ statements as_text body.now (level + 1)) }
 {
-    block(out, body, inner_level(level)?)
+    block(out, body, one_more(level)?)
 }
 
 /// Writes the statements that stand in a brace of a level, and the line that closes it.
@@ -126,7 +126,7 @@ fn loop_start(out: &mut Vec<u8>, first: &[CStatement], level: u32) -> Result<(),
 fn turn(out: &mut Vec<u8>, body: &[CStatement], test: &CExpr, level: u32) -> Result<(), NoMemory>
     ensures { OnOk result (out.new.items ≡ out.old.items ++ ((test_line 0 test.now (level + 1) ++ statements as_text body.now (level + 1 + 1)) ++ loop_end level)) }
 {
-    let inner = inner_level(level)?;
+    let inner = one_more(level)?;
     test_line(out, 0, test, inner)?;
     inside(out, body, inner)?;
     loop_end(out, level)

@@ -2,7 +2,8 @@
 use Rattle.std.proofs.Common.{◌≡◌, ℕ, ◌+◌, ◌<◌, ◌≤◌, ◌^◌, Bool, true, false, if◌then◌else◌, List, [], ◌∷◌, Some, None, refl, sym, ap, ◌∙◌, subst, arith, append_assoc}
 use Rattle.std.specs.Str.{bytes_eq}
 use Rattle.krml_trace.specs.Run.{Goes}
-use Rattle.krml_trace.proofs.Simulates.{goes, sim_so, bind_bind}
+use Rattle.krml_trace.proofs.Bind.{bind_bind}
+use Rattle.krml_trace.proofs.Simulates.{goes, sim_so}
 use Rattle.krml_syntax.specs.declared.tree.Ty.{Ty}
 use Rattle.krml_syntax.specs.declared.tree.Def.{Def}
 use Rattle.krml_ast.specs.Typing.{Vars}

@@ -57,7 +57,7 @@ images_at defs _ _ = []
 abbrev pub events_image : List Def → List SourceEvent → List CEvent
 events_image defs es = flat_map (λ e. reverse (event_image defs e)) es
 
-abbrev pub the_image : List Def → Image SourceEvent Block CEvent CBlock
+abbrev pub the_image : List Def → Image SourceEvent (List Block) CEvent (List CBlock)
 the_image defs = record { events = events_image defs; memory = λ m. [] }
 
 abbrev pub state_image : List Def → SourceState → CState

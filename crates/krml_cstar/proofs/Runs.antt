@@ -109,7 +109,7 @@ module _ (defs : List Def) (m : List Block) (x : Value) where
 same_run : (defs : List Def) (m : List Block) (a : Ty) (r : SourceRan Value) (r' : CRan (Option CValue)) → IsAnswer a → After (Fine defs m (erased a)) r → Sim defs (Gave defs a) r r'
     → NotStuck (outcome_of (src.done 0) r) → (outcome_of (tgt.done 0) r' ≡ outcome_of (src.done 0) r) × (events_of r' ≡ image_c defs (events_of r))
 same_run defs m a (Goes x s) r' ans f h not =
-    rw h.is (ap (λ z. outcome.Done z []) (same_scalar defs s.memory x a h.to ans f.shape h.holds), events_in_order defs s.events)
+    rw h.is (ap (λ z. outcome.Done z []) (same_scalar defs s.memory x a h.to ans f.shape h.holds.value), events_in_order defs s.events)
 same_run defs m a (Ends Spent es) r' ans f h not = rw h (refl, events_in_order defs es)
 same_run defs m a (Ends Deep es) r' ans f h not = rw h (refl, events_in_order defs es)
 same_run defs m a (Ends (Stuck c) es) r' ans f h not = absurd not

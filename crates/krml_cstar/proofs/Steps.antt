@@ -2,7 +2,7 @@
 use Rattle.std.proofs.Common.{◌≡◌, ℕ, Bool, List, [], ◌∷◌, ◌++◌, map, refl, sym, ◌∙◌}
 use Rattle.krml_trace.specs.declared.width.Width.{Width}
 use Rattle.krml_trace.specs.Run.{bind}
-use Rattle.krml_trace.proofs.Simulates.{bind_bind, bind_same}
+use Rattle.krml_trace.proofs.Bind.{bind_bind, bind_same}
 use Rattle.krml_ctree.specs.declared.tree.CBin.{CBin}
 use Rattle.krml_ctree.specs.declared.tree.CmpKind.{CmpKind}
 use Rattle.krml_ctree.specs.declared.tree.CVar.{CVar}

@@ -20,14 +20,14 @@ use crate::given::{
     nothing, number, shift, typed, value, with_code, with_type,
 };
 use crate::locals::{Local, Locals};
-use crate::names::{copy, named, plain};
+use crate::names::{named, plain};
 use crate::numbers::{computed, narrow, spread, widen, work};
 use crate::statements::{Code, chain, ended, repeated, set};
 use crate::terms::{Term, Values, bin, cmp, field, lit, var};
 use crate::types::{SourceType, copied, ctype, cvar, is_unit};
 use krml_ast::{BinOp, Expr, IntTy, Item, Names, Ty, field_named};
 use krml_ctree::{CBin, CExpr, CStatement, CType, CVar, CmpKind};
-use krml_trace::{Box, Name, NoMemory, Seq, Width, both};
+use krml_trace::{Box, Name, NoMemory, Seq, Width, both, one_more};
 use std::alloc::Global;
 use std::mem;
 
@@ -86,10 +86,7 @@ impl<'n, 'a> Emitter<'n, 'a> {
         ensures value { IfOk result (λ n. n ≡ self.old.next) }
     {
         let n = self.next;
-        match n.checked_add(1) {
-            Some(next) => self.next = next,
-            None => return Err(NoMemory),
-        }
+        self.next = one_more(n)?;
         Ok(n)
     }
 
@@ -113,7 +110,7 @@ impl<'n, 'a> Emitter<'n, 'a> {
     {
         match self.scope.look(x) {
             Some(local) => {
-                let value = var(self.alloc, copy(self.alloc, &local.emitted));
+                let value = var(self.alloc, local.emitted.copy(self.alloc));
                 with_type(value, copied(self.alloc, &local.ty))
             }
             None => no_value(self.alloc),
@@ -263,7 +260,7 @@ impl<'n, 'a> Emitter<'n, 'a> {
     {
         let Given { value, ty } = a?;
         let ty = self.field_type(y, ty.get());
-        with_type(field(self.alloc, Ok(value), copy(self.alloc, y)), ty)
+        with_type(field(self.alloc, Ok(value), y.copy(self.alloc)), ty)
     }
 
     /// The type of the numbers in a table.
@@ -285,7 +282,7 @@ impl<'n, 'a> Emitter<'n, 'a> {
     ) -> Result<(), NoMemory>
         ensures { OnOk result (IsOkAnd variable (λ v. IsOkAnd place (λ e. self.new ≡ record self.old { code = self.old.code ++ st.Tab v x.now e ∷ [] }))) }
     {
-        let ((variable, x), place) = both(both(variable, copy(self.alloc, x)), place)?;
+        let ((variable, x), place) = both(both(variable, x.copy(self.alloc)), place)?;
         self.put(Ok(CStatement::Tab(variable, x, place.into_inner())))
     }
 
@@ -316,7 +313,7 @@ impl<'n, 'a> Emitter<'n, 'a> {
         ensures state { OnOk result (IsOkAnd values (λ es. self.new ≡ record self.old { code = self.old.code ++ st.Run f.now es ∷ [] })) }
         ensures value { IfOk result (λ r. r ≡ record { value = nothing; ty = ty }) }
     {
-        let (f, values) = both(copy(self.alloc, f), values)?;
+        let (f, values) = both(f.copy(self.alloc), values)?;
         self.put(Ok(CStatement::Run(f, values)))?;
         nothing(self.alloc, Ok(ty))
     }
@@ -328,7 +325,7 @@ impl<'n, 'a> Emitter<'n, 'a> {
     {
         let n = self.fresh()?;
         let variable = self.variable(n, ctype(self.alloc, ty.get()));
-        let (variable, (f, values)) = both(variable, both(copy(self.alloc, f), values))?;
+        let (variable, (f, values)) = both(variable, both(f.copy(self.alloc), values))?;
         self.put(Ok(CStatement::Call(variable, f, values)))?;
         with_type(self.read(n), Ok(ty))
     }
@@ -409,7 +406,7 @@ impl<'n, 'a> Emitter<'n, 'a> {
     {
         let n = self.fresh()?;
         let (ty, emitted) = both(ty, named(self.alloc, n, x))?;
-        let variable = cvar(ctype(self.alloc, ty.get()), copy(self.alloc, &emitted));
+        let variable = cvar(ctype(self.alloc, ty.get()), emitted.copy(self.alloc));
         self.declare(variable, value)?;
         self.scope.push(Local {
             name: x,

@@ -8,7 +8,6 @@ ghost use Rattle.krml_ctree.specs.declared.tree.CBin.TheVariants.{Xor};
 ghost use Rattle.krml_ctree.specs.declared.tree.CExpr.TheVariants.{Cmp as compared_by, Bin as binary_of, Cast as cast_to, Lit as number_of, Build as struct_of};
 ghost use Rattle.krml_cstar.specs.Translation.{nothing, truth, literal, narrow as narrowed, widen as widened, shift_op, kind};
 
-use crate::names::copy;
 use crate::numbers::{compared, converted, literal, opposite, shifted, truth};
 use crate::terms::{Term, Values, build, lit};
 use crate::types::{SourceType, struct_type};
@@ -139,6 +138,6 @@ pub fn conversion(alloc: Global, i: IntTy, j: IntTy, a: Part) -> Part
 pub fn built(alloc: Global, x: &Name, values: Values) -> Part
     ensures { IfOk result (λ r. IsOkAnd values (λ es. r ≡ record { value = struct_of x.now es; ty = struct_type x.now [] })) }
 {
-    let value = build(alloc, copy(alloc, x), values);
-    with_type(value, struct_type(alloc, copy(alloc, x)))
+    let value = build(alloc, x.copy(alloc), values);
+    with_type(value, struct_type(alloc, x.copy(alloc)))
 }

@@ -6,13 +6,6 @@ ghost use Rattle.krml_cstar.specs.Translation.{plain, named};
 use krml_trace::{Name, NoMemory};
 use std::alloc::Global;
 
-/// A copy of a name. An error is want of memory.
-pub fn copy(alloc: Global, name: &Name) -> Result<Name, NoMemory>
-    ensures { IfOk result (λ r. r ≡ name.now) }
-{
-    Ok(Name::new(alloc, name.as_bytes())?)
-}
-
 /// The name of the variable of a number that the source does not have. An error is want of memory.
 pub fn plain(alloc: Global, number: u32) -> Result<Name, NoMemory>
     ensures { IfOk result (λ r. r ≡ plain number) }

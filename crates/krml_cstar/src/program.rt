@@ -12,11 +12,11 @@ ghost use Rattle.krml_cstar.specs.Emitting.{field_code, with_def, apart};
 use crate::emitter::Emitter;
 use crate::given::{Branch, with_code};
 use crate::locals::{Local, Locals};
-use crate::names::{copy, named};
+use crate::names::named;
 use crate::types::{ctype, cvar, is_unit};
 use krml_ast::{BundledFile, Def, Expr, Field, IntTy, Names, SourceFile, Ty, clone_ty};
 use krml_ctree::{CExpr, CFun, CProgram, CStruct, CTable, CType, CVar};
-use krml_trace::{Box, Name, NoMemory, Seq, both};
+use krml_trace::{Box, Name, NoMemory, Seq, both, count};
 use std::alloc::Global;
 
 /// The fields of a struct.
@@ -25,30 +25,9 @@ fn members(alloc: Global, fields: &[Field]) -> Result<Seq<CVar>, NoMemory>
 {
     let mut all = Seq::new(alloc);
     for field in fields {
-        all.push(cvar(ctype(alloc, &field.ty), copy(alloc, &field.name))?)?;
+        all.push(cvar(ctype(alloc, &field.ty), field.name.copy(alloc))?)?;
     }
     Ok(all)
-}
-
-/// Numbers.
-fn numbers(alloc: Global, nums: &[u64]) -> Result<Seq<u64>, NoMemory>
-    ensures { IfOk result (λ r. r ≡ nums.now) }
-{
-    let mut all = Seq::new(alloc);
-    for n in nums {
-        all.push(*n)?;
-    }
-    Ok(all)
-}
-
-/// A count, where it fits. One that does not is want of memory: no file within the limits leads there.
-fn count(n: usize) -> Result<u32, NoMemory>
-    ensures { IfOk result (λ r. r ≡ n) }
-{
-    match u32::try_from(n) {
-        Ok(r) => Ok(r),
-        Err(_) => Err(NoMemory),
-    }
 }
 
 /// A parameter as C has it.
@@ -148,7 +127,7 @@ fn function<'a>(
     ensures few { IfOk result (λ r. ((code_of defs.now body.now).run (params_from 0 params.now) (length params.now)).next ≤ 2 ^ 64) }
 {
     let body = emitted(alloc, defs, params, body);
-    let (name, params) = both(copy(alloc, x), variables(alloc, params))?;
+    let (name, params) = both(x.copy(alloc), variables(alloc, params))?;
     let (result, body) = both(result(alloc, ty), body)?;
     Ok(CFun {
         result,
@@ -163,7 +142,7 @@ fn function<'a>(
 fn structure(alloc: Global, name: &Name, fields: &[Field]) -> Result<CStruct, NoMemory>
     ensures { IfOk result (λ r. r ≡ record { name = name.now; fields = map field_code fields.now }) }
 {
-    let (name, fields) = both(copy(alloc, name), members(alloc, fields))?;
+    let (name, fields) = both(name.copy(alloc), members(alloc, fields))?;
     Ok(CStruct { name, fields })
 }
 
@@ -171,7 +150,7 @@ fn structure(alloc: Global, name: &Name, fields: &[Field]) -> Result<CStruct, No
 fn table(alloc: Global, name: &Name, ty: IntTy, nums: &[u64]) -> Result<CTable, NoMemory>
     ensures { IfOk result (λ r. r ≡ record { name = name.now; width = ty.width; nums = nums.now }) }
 {
-    let (name, nums) = both(copy(alloc, name), numbers(alloc, nums))?;
+    let (name, nums) = both(name.copy(alloc), Seq::from_slice(alloc, nums))?;
     Ok(CTable {
         name,
         width: ty.width,

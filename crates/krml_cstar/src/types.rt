@@ -4,7 +4,6 @@ ghost use Rattle.std.specs.Prelude.{◌≡◌, [], IfOk, IsOkAnd};
 ghost use Rattle.krml_syntax.specs.declared.tree.Ty.TheVariants.{Named as struct_type};
 ghost use Rattle.krml_cstar.specs.Translation.{ctype, is_unit};
 
-use crate::names::copy;
 use krml_ast::{Ty, clone_ty};
 use krml_ctree::{CType, CVar};
 use krml_trace::{Box, Name, NoMemory, Seq, both};
@@ -39,7 +38,7 @@ pub fn ctype(alloc: Global, a: &Ty) -> Result<CType, NoMemory>
             let b = ctype(alloc, b.get())?;
             Ok(CType::Ptr(Box::new(alloc, b)?))
         }
-        Ty::Named(x, _) => Ok(CType::Struct(copy(alloc, x)?)),
+        Ty::Named(x, _) => Ok(CType::Struct(x.copy(alloc)?)),
         _ => Ok(CType::U8),
     }
 }

@@ -1,6 +1,7 @@
 -- Tokens as forms, one token after another.
 use Rattle.std.specs.Prelude.{◌≡◌, if◌then◌else◌, nat_lt, List, [], ◌∷◌, ◌++◌, length, reverse, Option, Some, None, Result, Ok, Err}
 use Rattle.std.specs.declared.alloc.AllocError.{AllocError}
+use Rattle.krml_trace.specs.Limits.{max_levels}
 use Rattle.krml_forms.specs.Text.{Token, Open, Close, Word, Foreign}
 use Rattle.krml_forms.specs.declared.form.Form.{Form}
 use Rattle.krml_forms.specs.declared.form.Form.TheVariants.{Atom, List as Node}
@@ -14,7 +15,7 @@ abbrev pub nest : List (List Form) → List Form → List Token → Option (List
 nest [] inner [] = Some inner
 nest (up ∷ outer) inner [] = None
 nest outer inner (Word w ∷ ts) = nest outer (inner ++ Atom w ∷ []) ts
-nest outer inner (Open ∷ ts) = if nat_lt (length outer) 64 then nest (inner ∷ outer) [] ts else None
+nest outer inner (Open ∷ ts) = if nat_lt (length outer) max_levels then nest (inner ∷ outer) [] ts else None
 nest [] inner (Close ∷ ts) = None
 nest (up ∷ outer) inner (Close ∷ ts) = nest outer (up ++ Node inner ∷ []) ts
 nest outer inner (Foreign ∷ ts) = None

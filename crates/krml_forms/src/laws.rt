@@ -1,4 +1,5 @@
 ghost use Rattle.std.specs.Prelude.{◌≡◌, ℕ, List};
+ghost use Rattle.krml_trace.specs.Limits.{max_levels};
 ghost use Rattle.krml_forms.specs.Text.{HasForms};
 ghost use Rattle.krml_forms.specs.Levels.{AllWithin};
 ghost use Rattle.krml_forms.specs.Faults.{IsFaultAt, IsDeepAt, HasNone};
@@ -15,8 +16,8 @@ pub fn one_reading()
 
 /// A text of forms of 64 levels at most has no fault at any place, and opens no 65th level.
 pub fn forms_have_no_fault()
-    ensures fault { (text : List ℕ) (forms : List Form) → HasForms text forms → AllWithin 64 forms → HasNone (IsFaultAt text) }
-    ensures deep { (text : List ℕ) (forms : List Form) → HasForms text forms → AllWithin 64 forms → HasNone (IsDeepAt text) }
+    ensures fault { (text : List ℕ) (forms : List Form) → HasForms text forms → AllWithin max_levels forms → HasNone (IsFaultAt text) }
+    ensures deep { (text : List ℕ) (forms : List Form) → HasForms text forms → AllWithin max_levels forms → HasNone (IsDeepAt text) }
 {}
 
 /// The text that is written for forms whose atoms are words has these forms.
@@ -26,5 +27,5 @@ pub fn written_forms_are_read()
 
 /// The atoms of forms that a text has are words, so what was read is written and read again.
 pub fn read_forms_are_writable()
-    ensures { (text : List ℕ) (forms : List Form) → HasForms text forms → AllWithin 64 forms → AllWritable forms }
+    ensures { (text : List ℕ) (forms : List Form) → HasForms text forms → AllWithin max_levels forms → AllWritable forms }
 {}

@@ -15,6 +15,5 @@ mod write;
 pub use count::form_count;
 pub use form::Form;
 pub use laws::{forms_have_no_fault, one_reading, read_forms_are_writable, written_forms_are_read};
-pub use nest::MAX_LEVELS;
 pub use read::{Reading, read_forms};
 pub use write::write_forms;

@@ -4,12 +4,9 @@ ghost use Rattle.krml_forms.specs.Nest.{Takes, after, nest};
 ghost use Rattle.krml_forms.specs.Scan.{Moves};
 
 use crate::form::Form;
-use krml_trace::{NoMemory, Seq};
+use krml_trace::{MAX_LEVELS, NoMemory, Seq};
 use std::alloc::Global;
 use std::mem;
-
-/// How many lists may be open at a place.
-pub const MAX_LEVELS: usize = 64;
 
 /// What a part of a text did to the lists that are open.
 #[derive(Clone, Copy, Debug, PartialEq, Eq)]

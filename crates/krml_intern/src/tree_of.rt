@@ -32,7 +32,7 @@ fn variable_of(alloc: Global, x: Option<&Name>) -> Tree
     let Some(x) = x else {
         return Ok(None);
     };
-    let x = Name::new(alloc, x.as_bytes())?;
+    let x = x.copy(alloc)?;
     Ok(Some(Ty::Var(x)))
 }
 
@@ -43,7 +43,7 @@ fn head_of(alloc: Global, x: Option<&Name>) -> Tree
     let Some(x) = x else {
         return Ok(None);
     };
-    let x = Name::new(alloc, x.as_bytes())?;
+    let x = x.copy(alloc)?;
     Ok(Some(Ty::Named(x, Seq::new(alloc))))
 }
 

@@ -23,7 +23,7 @@ fn argument_of(vars: &[Name], args: &[usize], x: &Name) -> Option<usize>
     let [a, args @ ..] = args else {
         return None;
     };
-    if v.as_bytes() == x.as_bytes() {
+    if v.is(x) {
         return Some(*a);
     }
     argument_of(vars, args, x)

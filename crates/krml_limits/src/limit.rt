@@ -2,6 +2,7 @@ ghost use Rattle.std.specs.Prelude.{◌≡◌, [], ◌∷◌};
 ghost use Rattle.krml_syntax.specs.Limits.{limit_of, first_above};
 
 use krml_syntax::LimitKind;
+use krml_trace::MAX_ELEMENTS;
 
 /// How much of a kind there may be.
 pub fn limit_of(kind: LimitKind) -> u64
@@ -15,7 +16,7 @@ pub fn limit_of(kind: LimitKind) -> u64
         LimitKind::Parameters => 32,
         LimitKind::Fields => 24,
         LimitKind::Constructors => 256,
-        LimitKind::Elements => 65_536,
+        LimitKind::Elements => u64::from(MAX_ELEMENTS),
     }
 }
 

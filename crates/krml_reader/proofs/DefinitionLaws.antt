@@ -14,7 +14,7 @@ use Rattle.krml_syntax.specs.Spelling.{int_word, Each, SpellsVar, SpellsNumber, 
 use Rattle.krml_syntax.proofs.Only.{Only, only_none, only_some, only_then, only_more}
 use Rattle.krml_reader.specs.declared.keyword.Keyword.{Keyword}
 use Rattle.krml_reader.specs.declared.keyword.Keyword.TheVariants as k
-use Rattle.krml_reader.specs.Gives.{each_of, list_in, below}
+use Rattle.krml_reader.specs.Each.{each_of, list_in, below}
 use Rattle.krml_reader.specs.Keyword.{spelling, keyword_at}
 use Rattle.krml_reader.specs.Words.{name_at, var_at, int_at, number_of_width}
 use Rattle.krml_reader.specs.Types.{ty_at, tys_of}

@@ -8,7 +8,7 @@ use Rattle.krml_forms.specs.Levels.{Within, AllWithin}
 use Rattle.krml_forms.proofs.Layer.{is_list}
 use Rattle.krml_syntax.specs.Spelling.{Each}
 use Rattle.krml_syntax.proofs.Only.{Only, only_none, only_some, only_then, only_more}
-use Rattle.krml_reader.specs.Gives.{each_after, each_of, list_in, below}
+use Rattle.krml_reader.specs.Each.{each_after, each_of, list_in, below}
 
 module _ {X : Type 0} (R : Form → X → Type 0) (read : Form → Option X) where
   -- xs are those before, and then what the forms spell

@@ -16,7 +16,7 @@ use Rattle.krml_syntax.specs.Name.{is_name, is_reserved, IsName}
 use Rattle.krml_syntax.specs.Spelling.{int_word, bool_word, Spells, SpellsAll, SpellsArm, SpellsArms, SpellsItem, SpellsItems}
 use Rattle.krml_reader.specs.declared.keyword.Keyword.{Keyword}
 use Rattle.krml_reader.specs.declared.keyword.Keyword.TheVariants as k
-use Rattle.krml_reader.specs.Gives.{each_after, each_of, list_in}
+use Rattle.krml_reader.specs.Each.{each_after, each_of, list_in}
 use Rattle.krml_reader.specs.Keyword.{spelling, keyword_of, keyword_at}
 use Rattle.krml_reader.specs.Types.{tys_at}
 use Rattle.krml_reader.specs.Expression.{variable_of, word_by, operands_by, applied_by, do_by, control_by, access_by, operation_by, headed_by, list_by, arm_by, let_by, is_let_word, is_let, expr_in, item_in, list_at, arm_list_at, let_at, expr_at, arm_at, item_at, operation_at}

@@ -17,7 +17,7 @@ use Rattle.krml_syntax.specs.Spelling.{int_word, Each, SpellsTys, Spells, Spells
 use Rattle.krml_syntax.proofs.Only.{Only, only_none, only_some, only_then, only_more}
 use Rattle.krml_reader.specs.declared.keyword.Keyword.{Keyword}
 use Rattle.krml_reader.specs.declared.keyword.Keyword.TheVariants as k
-use Rattle.krml_reader.specs.Gives.{each_of, list_in}
+use Rattle.krml_reader.specs.Each.{each_of, list_in}
 use Rattle.krml_reader.specs.Keyword.{spelling, keyword_of, keyword_at}
 use Rattle.krml_reader.specs.Words.{name_of, name_at, int_at, number_of_width, length_at}
 use Rattle.krml_reader.specs.Types.{ty_at, tys_at}

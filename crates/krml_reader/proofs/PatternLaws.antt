@@ -15,7 +15,7 @@ use Rattle.krml_syntax.specs.Spelling.{int_word, bool_word, SpellsPat, SpellsPat
 use Rattle.krml_syntax.proofs.Only.{Only, only_none, only_some, only_then}
 use Rattle.krml_reader.specs.declared.keyword.Keyword.{Keyword}
 use Rattle.krml_reader.specs.declared.keyword.Keyword.TheVariants as k
-use Rattle.krml_reader.specs.Gives.{each_after, each_of}
+use Rattle.krml_reader.specs.Each.{each_after, each_of}
 use Rattle.krml_reader.specs.Keyword.{spelling, keyword_of, keyword_at}
 use Rattle.krml_reader.specs.Words.{name_of, name_at, number_of_width}
 use Rattle.krml_reader.specs.Pattern.{bound_of, word_by, atom_of, number_of, parts_by, con_by, make_by, head_by, list_by, pat_in, list_at, pat_at, pats_of}

@@ -18,7 +18,7 @@ use Rattle.krml_syntax.specs.Spelling.{int_word, SpellsTy, SpellsTys, Each}
 use Rattle.krml_syntax.proofs.Only.{Only, only_none, only_some, only_then, only_more}
 use Rattle.krml_reader.specs.declared.keyword.Keyword.{Keyword}
 use Rattle.krml_reader.specs.declared.keyword.Keyword.TheVariants as k
-use Rattle.krml_reader.specs.Gives.{each_after, each_of, list_in, below}
+use Rattle.krml_reader.specs.Each.{each_after, each_of, list_in, below}
 use Rattle.krml_reader.specs.Keyword.{spelling, keyword_of, keyword_in, keyword_at}
 use Rattle.krml_reader.specs.Words.{name_of, name_at}
 use Rattle.krml_reader.specs.Types.{named_of, word_by, word_of, variable_of, atom_of, buffer_by, applied_by, is_buf_word, is_buf, list_by, ty_in, list_at, ty_at, tys_of, tys_at}

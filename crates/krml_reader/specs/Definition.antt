@@ -8,7 +8,7 @@ use Rattle.krml_syntax.specs.declared.tree.Def.TheVariants as d
 use Rattle.krml_syntax.specs.Read.{◌>>=◌}
 use Rattle.krml_reader.specs.declared.keyword.Keyword.{Keyword}
 use Rattle.krml_reader.specs.declared.keyword.Keyword.TheVariants as k
-use Rattle.krml_reader.specs.Gives.{each_of, list_in, below}
+use Rattle.krml_reader.specs.Each.{each_of, list_in, below}
 use Rattle.krml_reader.specs.Keyword.{keyword_at}
 use Rattle.krml_reader.specs.Words.{name_at, var_at, int_at, number_of_width}
 use Rattle.krml_reader.specs.Types.{ty_at, tys_of}

@@ -1,7 +1,7 @@
 pub mod Answer
 pub mod Definition
+pub mod Each
 pub mod Expression
-pub mod Gives
 pub mod Keyword
 pub mod Pattern
 pub mod Read

@@ -1,5 +1,6 @@
 -- What reading a text comes to.
 use Rattle.std.specs.Prelude.{◌≡◌, ℕ, ◌<◌, ◌≤◌, if◌then◌else◌, nat_lt, List, ◌∷◌, ◌++◌, length, Some, Result, Ok, Err}
+use Rattle.krml_trace.specs.Limits.{max_text, max_levels}
 use Rattle.krml_forms.specs.declared.form.Form.{Form}
 use Rattle.krml_forms.specs.Text.{HasForms}
 use Rattle.krml_forms.specs.Levels.{AllWithin}
@@ -15,16 +16,16 @@ use Rattle.krml_reader.specs.declared.refusal.ReadRefusal.{ReadRefusal}
 use Rattle.krml_reader.specs.declared.refusal.ReadRefusal.TheVariants.{TooLarge, Syntax, Nesting, Shape, Limit, NoMemory}
 
 abbrev pub IsShort : List ℕ → Type 0
-IsShort text = length text ≤ 1048576
+IsShort text = length text ≤ max_text
 
 -- A short text of forms that have 64 levels at most.
 abbrev pub IsFormed : List ℕ → List Form → Type 0
-IsFormed text forms = IsShort text × HasForms text forms × AllWithin 64 forms
+IsFormed text forms = IsShort text × HasForms text forms × AllWithin max_levels forms
 
 -- The file that a text spells, or the first cause, in this order, why it spells none.
 pub data Reads (text : List ℕ) : Result SourceFile ReadRefusal → Type 0 where
   -- more than 1,048,576 bytes
-  too_large : 1048576 < length text → Reads text (Err TooLarge)
+  too_large : max_text < length text → Reads text (Err TooLarge)
   -- the first fault by place
   syntax : {at : ℕ} → IsShort text → IsFirst (IsFaultAt text) at → Reads text (Err (Syntax at))
   -- no fault, and the first `(` of a 65th level
@@ -51,4 +52,4 @@ IsRefused text (Err refusal) = Reads text (Err refusal)
 
 -- What reading the written text of a file comes to, where a text within the limits spells the file.
 abbrev pub read_back : SourceFile → Result SourceFile ReadRefusal
-read_back read = if nat_lt 1048576 (length (text_of read)) then Err TooLarge else Ok read
+read_back read = if nat_lt max_text (length (text_of read)) then Err TooLarge else Ok read

@@ -7,7 +7,7 @@ use Rattle.krml_syntax.specs.declared.tree.Ty.TheVariants as t
 use Rattle.krml_syntax.specs.Read.{◌>>=◌}
 use Rattle.krml_reader.specs.declared.keyword.Keyword.{Keyword}
 use Rattle.krml_reader.specs.declared.keyword.Keyword.TheVariants as k
-use Rattle.krml_reader.specs.Gives.{each_of, list_in, below}
+use Rattle.krml_reader.specs.Each.{each_of, list_in, below}
 use Rattle.krml_reader.specs.Keyword.{keyword_of, keyword_at}
 use Rattle.krml_reader.specs.Words.{name_of, name_at}
 

@@ -5,7 +5,6 @@ mod definition;
 mod expression;
 mod keyword;
 mod name;
-mod no_tree;
 mod pattern;
 mod read;
 mod refusal;

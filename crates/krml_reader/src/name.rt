@@ -2,12 +2,11 @@ ghost use Rattle.std.specs.Prelude.{◌≡◌};
 ghost use Rattle.std.specs.List.{list_all};
 ghost use Rattle.krml_trace.specs.Byte.{is_letter, is_name_byte};
 ghost use Rattle.krml_syntax.specs.Name.{is_reserved, is_name};
-ghost use Rattle.krml_reader.specs.Gives.{Gives};
+ghost use Rattle.krml_trace.specs.Gives.{Gives};
 ghost use Rattle.krml_reader.specs.Words.{name_of, name_at};
 
-use crate::no_tree::NoTree;
 use krml_forms::Form;
-use krml_trace::Name;
+use krml_trace::{Missing, Name};
 use std::alloc::Global;
 
 fn is_letter(byte: u8) -> bool
@@ -61,22 +60,22 @@ fn is_name(word: &[u8]) -> bool
 }
 
 /// The name that a word is.
-pub fn name_of(alloc: Global, word: &[u8]) -> Result<Name, NoTree>
+pub fn name_of(alloc: Global, word: &[u8]) -> Result<Name, Missing>
     ensures { Gives result (name_of word.now) }
 {
     if is_name(word) {
         Ok(Name::new(alloc, word)?)
     } else {
-        Err(NoTree::Unspelled)
+        Err(Missing::Absent)
     }
 }
 
 /// The name that a form is.
-pub fn name_at(alloc: Global, form: &Form) -> Result<Name, NoTree>
+pub fn name_at(alloc: Global, form: &Form) -> Result<Name, Missing>
     ensures { Gives result (name_at form.now) }
 {
     match form {
         Form::Atom(word) => name_of(alloc, word.as_slice()),
-        Form::List(_) => Err(NoTree::Unspelled),
+        Form::List(_) => Err(Missing::Absent),
     }
 }

@@ -1,4 +1,5 @@
 ghost use Rattle.std.specs.Prelude.{◌≡◌, IfOk, List, ℕ, Result};
+ghost use Rattle.krml_trace.specs.Limits.{max_levels};
 ghost use Rattle.krml_forms.specs.declared.form.Form.{Form};
 ghost use Rattle.krml_forms.specs.Levels.{Within};
 ghost use Rattle.krml_syntax.specs.declared.tree.Def.{Def};
@@ -10,22 +11,18 @@ ghost use Rattle.krml_reader.specs.Answer.{Misshapen, Answers, AddsDef, defs_of,
 ghost use Rattle.krml_reader.specs.Read.{Reads, IsRead, IsRefused};
 
 use crate::definition::def_at;
-use crate::no_tree::NoTree;
 use crate::refusal::ReadRefusal;
 use krml_forms::{Form, Reading, one_reading, read_forms};
 use krml_limits::{Excess, first_excess};
 use krml_syntax::{Def, SourceFile};
-use krml_trace::Seq;
+use krml_trace::{MAX_TEXT, Missing, Seq, count};
 use std::alloc::Global;
-
-/// How many bytes a text may have.
-const MAX_TEXT: usize = 1_048_576;
 
 /// The refusal of the form of this index.
 fn misshapen(index: usize) -> ReadRefusal
     ensures { Misshapen index result }
 {
-    match u32::try_from(index) {
+    match count(index) {
         Ok(form) => ReadRefusal::Shape { form },
         Err(_) => ReadRefusal::NoMemory,
     }
@@ -38,8 +35,8 @@ fn add_def(alloc: Global, defs: &mut Seq<Def>, form: &Form) -> Result<(), ReadRe
 {
     match def_at(alloc, form) {
         Ok(def) => Ok(defs.push(def)?),
-        Err(NoTree::Unspelled) => Err(misshapen(defs.len())),
-        Err(NoTree::NoMemory) => Err(ReadRefusal::NoMemory),
+        Err(Missing::Absent) => Err(misshapen(defs.len())),
+        Err(Missing::NoMemory) => Err(ReadRefusal::NoMemory),
     }
 }
 
@@ -109,5 +106,5 @@ pub fn one_file()
 
 /// A form of 64 levels at most spells at most one definition.
 pub fn one_definition()
-    ensures { (form : Form) (a b : Def) → Within 64 form → SpellsDef form a → SpellsDef form b → a ≡ b }
+    ensures { (form : Form) (a b : Def) → Within max_levels form → SpellsDef form a → SpellsDef form b → a ≡ b }
 {}

@@ -1,31 +1,30 @@
 ghost use Rattle.std.specs.Prelude.{◌≡◌};
-ghost use Rattle.krml_reader.specs.Gives.{Gives};
+ghost use Rattle.krml_trace.specs.Gives.{Gives};
 ghost use Rattle.krml_reader.specs.Words.{var_of, var_at, int_at, number_of_width, length_by, length_at};
 
 use crate::keyword::{Keyword, keyword_at};
 use crate::name::name_of;
-use crate::no_tree::NoTree;
 use krml_forms::Form;
 use krml_syntax::{IntTy, number_at};
-use krml_trace::{Name, Width};
+use krml_trace::{Missing, Name, Width};
 use std::alloc::Global;
 
-fn var_of(alloc: Global, word: &[u8]) -> Result<Name, NoTree>
+fn var_of(alloc: Global, word: &[u8]) -> Result<Name, Missing>
     ensures { Gives result (var_of word.now) }
 {
     match word {
         [b'\'', name @ ..] => name_of(alloc, name),
-        _ => Err(NoTree::Unspelled),
+        _ => Err(Missing::Absent),
     }
 }
 
 /// The type variable that a form is, by its name without the quote.
-pub fn var_at(alloc: Global, form: &Form) -> Result<Name, NoTree>
+pub fn var_at(alloc: Global, form: &Form) -> Result<Name, Missing>
     ensures { Gives result (var_at form.now) }
 {
     match form {
         Form::Atom(word) => var_of(alloc, word.as_slice()),
-        Form::List(_) => Err(NoTree::Unspelled),
+        Form::List(_) => Err(Missing::Absent),
     }
 }
 

@@ -2,6 +2,7 @@
 use Rattle.std.specs.Prelude.{ℕ, Bool, false, if◌then◌else◌, ◌==◌, nat_lt, List, [], ◌∷◌, ◌++◌, map, length, codes, Option, Some, None}
 use Rattle.std.specs.List.{flat_map}
 use Rattle.std.specs.Str.{bytes_eq}
+use Rattle.krml_trace.specs.Limits.{max_elements}
 use Rattle.krml_forms.specs.declared.form.Form.{Form, out-Form}
 use Rattle.krml_forms.specs.declared.form.Form.TheOpen.{Form-F}
 use Rattle.krml_forms.specs.declared.form.Form.TheFolds.{fold-Form, para-Form}
@@ -20,7 +21,7 @@ limit_of k.Variables = 8
 limit_of k.Parameters = 32
 limit_of k.Fields = 24
 limit_of k.Constructors = 256
-limit_of k.Elements = 65536
+limit_of k.Elements = max_elements
 
 -- the order in which they are answered
 abbrev pub kinds : List LimitKind

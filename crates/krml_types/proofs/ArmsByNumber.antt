@@ -11,8 +11,8 @@ use Rattle.krml_syntax.specs.Read.{◌>>=◌}
 use Rattle.krml_ast.specs.Typing.{Vars, Scope, with_vars}
 use Rattle.krml_intern.specs.Scope.{are_distinct}
 use Rattle.krml_intern.specs.Table.{Table}
-use Rattle.krml_types.specs.declared.untyped.Untyped.{Untyped}
-use Rattle.krml_types.specs.declared.untyped.Untyped.TheVariants.{Fault, NoMemory}
+use Rattle.krml_trace.specs.declared.missing.Missing.{Missing}
+use Rattle.krml_trace.specs.declared.missing.Missing.TheVariants.{Absent, NoMemory}
 use Rattle.krml_types.specs.Expressions.{arm_type, type_of, arm_of}
 use Rattle.krml_types.specs.Judging.{Place, GivesNumber, Binds}
 use Rattle.krml_types.specs.Parts.{demand}
@@ -58,6 +58,6 @@ module _ (defs : List Def) (tvars : List (List ℕ)) (x : Arm) (s : Ty) (g : Sco
   arm_none is = arm_is ∙ ap (λ o. o >>= λ vars. demand (are_distinct vars) >>= λ u. type_of defs tvars x.body (with_vars vars g)) (arm_unbound defs x.pat s g.vars is)
 
 -- a pattern that does not match hands its failure on
-pub unbound : (t : Table) (r : Result (Unit {0}) Untyped) (q : Result ℕ Untyped) (e : Untyped) (o : Option Vars) (x : Option Ty) (old new : Place) → Binds r o old new → r ≡ Err e → q ≡ Err e → (o ≡ None → x ≡ None) → GivesNumber t q x
-unbound t r q Fault o x old new b r_is q_is none = subst (λ z. GivesNumber t z x) (sym q_is) (none (subst (λ z. Binds z o old new) r_is b))
+pub unbound : (t : Table) (r : Result (Unit {0}) Missing) (q : Result ℕ Missing) (e : Missing) (o : Option Vars) (x : Option Ty) (old new : Place) → Binds r o old new → r ≡ Err e → q ≡ Err e → (o ≡ None → x ≡ None) → GivesNumber t q x
+unbound t r q Absent o x old new b r_is q_is none = subst (λ z. GivesNumber t z x) (sym q_is) (none (subst (λ z. Binds z o old new) r_is b))
 unbound t r q NoMemory o x old new b r_is q_is none = subst (λ z. GivesNumber t z x) (sym q_is) tt

@@ -27,9 +27,9 @@ use Rattle.krml_syntax.proofs.Types.{at_erased}
 use Rattle.krml_intern.proofs.Erasing.{is_erased_still}
 use Rattle.krml_ast.specs.declared.component.Component.{Component}
 use Rattle.krml_ast.specs.declared.component.Component.TheVariants as comp
-use Rattle.krml_types.specs.declared.untyped.Untyped.{Untyped}
-use Rattle.krml_types.specs.declared.untyped.Untyped.TheVariants.{Fault, NoMemory}
-use Rattle.krml_types.specs.Gives.{Gives}
+use Rattle.krml_trace.specs.declared.missing.Missing.{Missing}
+use Rattle.krml_trace.specs.declared.missing.Missing.TheVariants.{Absent, NoMemory}
+use Rattle.krml_trace.specs.Gives.{Gives}
 use Rattle.krml_types.specs.Instances.{Instance, serve, named_at, make_at, con_at, call_at, field_type, make_parts, con_parts, part_type, part_at}
 use Rattle.krml_types.specs.Judging.{Place, in_scope, is_none, IsAt, AreParts, GivesApplied, GivesNumber, GivesParts, Binds, place_in}
 use Rattle.krml_types.specs.Parts.{demand, args_of}
@@ -49,7 +49,7 @@ number_is t k a g =
     subst (λ b. IsErased t k b) (sym same) g.2
 
 -- a test that two numbers are of one type tests just that
-pub same_tested : (s t : Table) (k j : ℕ) (a b : Ty) (one : Bool) (r : Result (Unit {0}) Untyped) → Grows s t → IsErased s k a → GivesNumber t (Ok j) (Some b)
+pub same_tested : (s t : Table) (k j : ℕ) (a b : Ty) (one : Bool) (r : Result (Unit {0}) Missing) → Grows s t → IsErased s k a → GivesNumber t (Ok j) (Some b)
     → ((a b : Ty) → IsErased t k a → IsErased t j b → Decides one (a ≡ b)) → Gives r (demand one) → Gives r (demand (same_ty a b))
 same_tested s t k j a b one r g e n same gives =
     subst (λ z. Gives r (demand z)) (same_from_decides one (same_ty a b) (same a b (is_erased_still s t g k a e) (number_is t j b n)) (same_decides a b)) gives
@@ -194,7 +194,7 @@ pub make_parts_where : {A : Type 0} (defs : List Def) (x y : List ℕ) (def : A 
 make_parts_where defs x y def None none t k a q some test head same e = absurd (cc)
 make_parts_where defs x y def (Some s) none t k a q some test head same e = make_parts_at defs x y (def s) t k a (sym q) head same e
 
-pub con_parts_at : (defs : List Def) (x y : List ℕ) (c : Constructor) (s t : Table) (k : ℕ) (a : Ty) (r : Result ℕ Untyped) → con_named defs x ≡ Some c → Some y ≡ head_of (out-Ty a)
+pub con_parts_at : (defs : List Def) (x y : List ℕ) (c : Constructor) (s t : Table) (k : ℕ) (a : Ty) (r : Result ℕ Missing) → con_named defs x ≡ Some c → Some y ≡ head_of (out-Ty a)
     → bytes_eq y c.sum ≡ true → IsErased s k a → ((z : List ℕ) (args : List Ty) → IsErased s k (ty.Named z args) → GivesNumber t r (Some (ty.Named x args)))
     → GivesParts t defs comp.Argument r (con_parts defs x a)
 con_parts_at defs x y c s t k a r q head same e gives = go r (gives c.sum args (subst (IsErased s k) a_is e))
@@ -208,10 +208,10 @@ con_parts_at defs x y c s t k a r q head same e gives = go r (gives c.sum args (
     is : con_parts defs x a ≡ Some (map (at c.vars args) c.args)
     is = ap (con_parts defs x) a_is ∙ rw (q, args_again c.sum args) refl
 
-    go : (r : Result ℕ Untyped) → GivesNumber t r (Some (ty.Named x args)) → GivesParts t defs comp.Argument r (con_parts defs x a)
+    go : (r : Result ℕ Missing) → GivesNumber t r (Some (ty.Named x args)) → GivesParts t defs comp.Argument r (con_parts defs x a)
     go (Ok n) g =
         (map (at c.vars args) c.args, is, record { name = x; args = args; is = number_is t n (ty.Named x args) g; each = arguments_listed defs x args args (λ vs b. refl) c q })
-    go (Err Fault) g = absurd (cc)
+    go (Err Absent) g = absurd (cc)
     go (Err NoMemory) g = tt
 
 -- the head of a type that has one is that of a name at type arguments
@@ -219,7 +219,7 @@ pub is_at : (t : Table) (k : ℕ) (x : List ℕ) (a : Ty) → Some x ≡ head_of
 is_at t k x a head e = let h = headed a x head in record { name = x; args = h.0; is = subst (IsErased t k) h.1 e }
 
 -- a component of those found is the number of the type at its place
-pub part_gives : (s t u : Table) (defs now : List Def) (kind : Component) (k j : ℕ) (types : List Ty) (r : Result ℕ Untyped) → Grows s t → now ≡ defs → AreParts s defs kind k types
+pub part_gives : (s t u : Table) (defs now : List Def) (kind : Component) (k j : ℕ) (types : List Ty) (r : Result ℕ Missing) → Grows s t → now ≡ defs → AreParts s defs kind k types
     → ((x : List ℕ) (args : List Ty) → IsErased t k (ty.Named x args) → GivesNumber u r (part_at now kind x args j)) → GivesNumber u r (slice_get types j)
 part_gives s t u defs now kind k j types r g same p gives =
     subst (GivesNumber u r) (p.each j) (subst (λ ds. GivesNumber u r (part_at ds kind p.name p.args j)) same (gives p.name p.args (is_erased_still s t g k (ty.Named p.name p.args) p.is)))
@@ -243,7 +243,7 @@ part_listed defs x j a types h = go (con_named defs x) h
             each None = refl
             each (Some b) = refl
 
-pub part_type_gives : (t u : Table) (defs now : List Def) (x : List ℕ) (k j : ℕ) (a : Ty) (r : Result ℕ Untyped) → now ≡ defs → GivesParts t defs comp.Argument (Ok k) (con_parts defs x a)
+pub part_type_gives : (t u : Table) (defs now : List Def) (x : List ℕ) (k j : ℕ) (a : Ty) (r : Result ℕ Missing) → now ≡ defs → GivesParts t defs comp.Argument (Ok k) (con_parts defs x a)
     → ((y : List ℕ) (args : List Ty) → IsErased t k (ty.Named y args) → GivesNumber u r (part_at now comp.Argument y args j)) → GivesNumber u r (part_type defs x j a)
 part_type_gives t u defs now x k j a r same p gives =
     subst (GivesNumber u r) (part_listed defs x j a p.0 p.1) (part_gives t t u defs now comp.Argument k j p.0 r (record { names = λ m y h. h; types = λ m b h. h }) same p.2 gives)
@@ -283,7 +283,7 @@ no_field defs x y s a q head none =
     let h = headed a x head in
     ap (field_type defs y) h.1 ∙ field_of defs x y h.0 s q ∙ ap (λ o. o >>= λ j. part_at defs comp.Field x h.0 j) (sym none)
 
-pub field_gives : (defs now : List Def) (x y : List ℕ) (s : List (List ℕ) × List Field) (t u : Table) (k j : ℕ) (a : Ty) (r : Result ℕ Untyped) → struct_named defs x ≡ Some s
+pub field_gives : (defs now : List Def) (x y : List ℕ) (s : List (List ℕ) × List Field) (t u : Table) (k j : ℕ) (a : Ty) (r : Result ℕ Missing) → struct_named defs x ≡ Some s
     → Some x ≡ head_of (out-Ty a) → Some j ≡ place_in s.1 y → IsErased t k a → now ≡ defs
     → ((z : List ℕ) (args : List Ty) → IsErased t k (ty.Named z args) → GivesNumber u r (part_at now comp.Field z args j)) → GivesNumber u r (field_type defs y a)
 field_gives defs now x y s t u k j a r q head place e same gives =
@@ -301,13 +301,13 @@ pub variable_binds : (defs : List Def) (q : Pat) (x : List ℕ) (a : Ty) (vars :
 variable_binds defs q x a vars is = ap (λ q. binds defs q a vars) is ∙ rw (fold_out-Pat, p.outs-Bind) refl
 
 -- what patterns at components bind, seen from the place before
-parts_from : (qs : List Pat) (types : List Ty) (t : Table) (old mid new : Place) (k : ℕ) (r : Result (Unit {0}) Untyped) (kind : Component) → mid ≡ old → AreParts t old.defs kind k types
+parts_from : (qs : List Pat) (types : List Ty) (t : Table) (old mid new : Place) (k : ℕ) (r : Result (Unit {0}) Missing) (kind : Component) → mid ≡ old → AreParts t old.defs kind k types
     → ((ts : List Ty) → AreParts t mid.defs kind k ts → Binds r (parts_bind (map (binds mid.defs) qs) ts mid.scope.vars) mid new)
     → Binds r (parts_bind (map (binds old.defs) qs) types old.scope.vars) old new
 parts_from qs types t old mid new k r kind same are each =
     subst (λ (m : Place). ((ts : List Ty) → AreParts t m.defs kind k ts → Binds r (parts_bind (map (binds m.defs) qs) ts m.scope.vars) m new)) same each types are
 
-pub con_binds : (q : Pat) (x : List ℕ) (qs : List Pat) (a : Ty) (t : Table) (old mid new : Place) (k : ℕ) (r : Result (Unit {0}) Untyped) → q ≡ p.Con x qs
+pub con_binds : (q : Pat) (x : List ℕ) (qs : List Pat) (a : Ty) (t : Table) (old mid new : Place) (k : ℕ) (r : Result (Unit {0}) Missing) → q ≡ p.Con x qs
     → GivesParts t old.defs comp.Argument (Ok k) (con_parts old.defs x a) → mid ≡ old
     → ((ts : List Ty) → AreParts t mid.defs comp.Argument k ts → Binds r (parts_bind (map (binds mid.defs) qs) ts mid.scope.vars) mid new)
     → Binds r (binds old.defs q a old.scope.vars) old new
@@ -317,7 +317,7 @@ con_binds q x qs a t old mid new k r is parts same each =
     subst (λ o. Binds r o old new) (sym (ap (λ q. binds old.defs q a old.scope.vars) is ∙ by ∙ ap (λ o. o >>= λ types. parts_bind (map (binds old.defs) qs) types old.scope.vars) parts.1))
     (parts_from qs parts.0 t old mid new k r comp.Argument same parts.2 each)
 
-pub make_binds : (q : Pat) (x : List ℕ) (qs : List Pat) (a : Ty) (t : Table) (old new : Place) (k : ℕ) (r : Result (Unit {0}) Untyped) → q ≡ p.Make x qs
+pub make_binds : (q : Pat) (x : List ℕ) (qs : List Pat) (a : Ty) (t : Table) (old new : Place) (k : ℕ) (r : Result (Unit {0}) Missing) → q ≡ p.Make x qs
     → GivesParts t old.defs comp.Field (Ok k) (make_parts old.defs x a)
     → ((ts : List Ty) → AreParts t old.defs comp.Field k ts → Binds r (parts_bind (map (binds old.defs) qs) ts old.scope.vars) old new)
     → Binds r (binds old.defs q a old.scope.vars) old new
@@ -361,7 +361,7 @@ abbrev with_bound : Place → Vars → Place
 with_bound old vars = in_scope old (record { vars = vars; frame = old.scope.frame })
 
 -- an early end by an error
-ended : (o : Option Vars) (old new : Place) (e : Untyped) (r : Result (Unit {0}) Untyped) → IsErrAnd r (λ y. y ≡ e) → Binds (Err e) o old new → Binds r o old new
+ended : (o : Option Vars) (old new : Place) (e : Missing) (r : Result (Unit {0}) Missing) → IsErrAnd r (λ y. y ≡ e) → Binds (Err e) o old new → Binds r o old new
 ended o old new e r same b = let w = err_from_is_err_and r same in subst (λ r. Binds r o old new) (sym (w.1 ∙ ap Err w.2)) b
 
 module _ (old : Place) (qs : List Pat) (types : List Ty) (j : ℕ) (q : Pat) (vars : Vars) (below : j < length qs) (is : q ≡ get_or qs j q)
@@ -373,23 +373,23 @@ module _ (old : Place) (qs : List Pat) (types : List Ty) (j : ℕ) (q : Pat) (va
   whole = sym so_far ∙ next_binds old.defs qs types j q vars below is
 
   -- no type is left for the pattern
-  pub no_part : (u : Table) (new : Place) (e : Untyped) (r : Result (Unit {0}) Untyped) → GivesNumber u (Err e) (slice_get types j) → IsErrAnd r (λ y. y ≡ e)
+  pub no_part : (u : Table) (new : Place) (e : Missing) (r : Result (Unit {0}) Missing) → GivesNumber u (Err e) (slice_get types j) → IsErrAnd r (λ y. y ≡ e)
       → Binds r (parts_bind (map (binds old.defs) qs) types old.scope.vars) old new
   no_part u new e r none same = ended (parts_bind (map (binds old.defs) qs) types old.scope.vars) old new e r same (go e none)
     where
-      go : (e : Untyped) → GivesNumber u (Err e) (slice_get types j) → Binds (Err e) (parts_bind (map (binds old.defs) qs) types old.scope.vars) old new
-      go Fault none = whole ∙ ap (λ o. o >>= λ a. binds old.defs q a vars >>= λ more. rest more) none
+      go : (e : Missing) → GivesNumber u (Err e) (slice_get types j) → Binds (Err e) (parts_bind (map (binds old.defs) qs) types old.scope.vars) old new
+      go Absent none = whole ∙ ap (λ o. o >>= λ a. binds old.defs q a vars >>= λ more. rest more) none
       go NoMemory none = tt
 
   -- the pattern does not fit its type
-  pub no_match : (u : Table) (k : ℕ) (mid new : Place) (e : Untyped) (r : Result (Unit {0}) Untyped) → mid ≡ with_bound old vars → GivesNumber u (Ok k) (slice_get types j)
+  pub no_match : (u : Table) (k : ℕ) (mid new : Place) (e : Missing) (r : Result (Unit {0}) Missing) → mid ≡ with_bound old vars → GivesNumber u (Ok k) (slice_get types j)
       → ((a : Ty) → IsErased u k a → Binds (Err e) (binds mid.defs q a mid.scope.vars) mid new) → IsErrAnd r (λ y. y ≡ e)
       → Binds r (parts_bind (map (binds old.defs) qs) types old.scope.vars) old new
   no_match u k mid new e r place part none same =
       ended (parts_bind (map (binds old.defs) qs) types old.scope.vars) old new e r same (go e (subst (λ (m : Place). Binds (Err e) (binds m.defs q part.0 m.scope.vars) m new) place (none part.0 part.2)))
     where
-      go : (e : Untyped) → Binds (Err e) (binds old.defs q part.0 vars) (with_bound old vars) new → Binds (Err e) (parts_bind (map (binds old.defs) qs) types old.scope.vars) old new
-      go Fault none =
+      go : (e : Missing) → Binds (Err e) (binds old.defs q part.0 vars) (with_bound old vars) new → Binds (Err e) (parts_bind (map (binds old.defs) qs) types old.scope.vars) old new
+      go Absent none =
           whole ∙ ap (λ o. o >>= λ a. binds old.defs q a vars >>= λ more. rest more) part.1 ∙ ap (λ o. o >>= λ more. rest more) none
       go NoMemory none = tt
 
@@ -409,22 +409,22 @@ still_bound old mid new vars u k a q v place e some =
     b.2 ∙ ap (λ vs. with_bound old vs) (sym (ap (λ (m : Place). m.scope.vars) b.2))
 
 -- no pattern is left
-last_binds : (defs : List Def) (qs : List Pat) (types : List Ty) (vars : Vars) (one : Bool) (r : Result (Unit {0}) Untyped) (old : Place) → one ≡ is_none (slice_get types (length qs))
+last_binds : (defs : List Def) (qs : List Pat) (types : List Ty) (vars : Vars) (one : Bool) (r : Result (Unit {0}) Missing) (old : Place) → one ≡ is_none (slice_get types (length qs))
     → Gives r (demand one) → Binds r (parts_bind (map (binds defs) (drop (length qs) qs)) (drop (length qs) types) vars) old (with_bound old vars)
 last_binds defs qs types vars one r old is gives =
     subst (λ o. Binds r o old (with_bound old vars)) (sym (ap (λ ps. parts_bind (map (binds defs) ps) (drop (length qs) types) vars) (drop_all qs)
     ∙ ap (λ ts. parts_bind [] ts vars) (left_is types (length qs)))) (go (slice_get types (length qs)) r (subst (λ b. Gives r (demand b)) is gives))
   where
-    go : (o : Option Ty) (r : Result (Unit {0}) Untyped) → Gives r (demand (is_none o)) → Binds r (parts_bind [] (left_by o (drop (length qs + 1) types)) vars) old (with_bound old vars)
+    go : (o : Option Ty) (r : Result (Unit {0}) Missing) → Gives r (demand (is_none o)) → Binds r (parts_bind [] (left_by o (drop (length qs + 1) types)) vars) old (with_bound old vars)
     go None (Ok u) g = (vars, refl, refl)
-    go None (Err Fault) g = absurd (cc)
+    go None (Err Absent) g = absurd (cc)
     go None (Err NoMemory) g = tt
     go (Some a) (Ok u) g = absurd (cc)
-    go (Some a) (Err Fault) g = refl
+    go (Some a) (Err Absent) g = refl
     go (Some a) (Err NoMemory) g = tt
 
 -- all types have a pattern
-pub all_matched : (old now : Place) (s t : Table) (kind : Component) (k j : ℕ) (qs : List Pat) (types : List Ty) (one : Bool) (r : Result (Unit {0}) Untyped) → now ≡ with_bound old now.scope.vars → Grows s t
+pub all_matched : (old now : Place) (s t : Table) (kind : Component) (k j : ℕ) (qs : List Pat) (types : List Ty) (one : Bool) (r : Result (Unit {0}) Missing) → now ≡ with_bound old now.scope.vars → Grows s t
     → parts_bind (map (binds old.defs) (drop j qs)) (drop j types) now.scope.vars ≡ parts_bind (map (binds old.defs) qs) types old.scope.vars → j ≡ length qs → AreParts s old.defs kind k types
     → ((x : List ℕ) (args : List Ty) → IsErased t k (ty.Named x args) → one ≡ is_none (part_at now.defs kind x args (length qs))) → Gives r (demand one)
     → Binds r (parts_bind (map (binds old.defs) qs) types old.scope.vars) old now

@@ -12,7 +12,7 @@ use Rattle.krml_intern.specs.Unlabelled.{IsErased}
 use Rattle.krml_intern.specs.Table.{Table, Grows, IsNumber, head_of}
 use Rattle.krml_intern.proofs.Erasing.{element_plain, is_erased_still}
 use Rattle.krml_ast.specs.declared.component.Component.{Component}
-use Rattle.krml_types.specs.declared.untyped.Untyped.TheVariants.{Fault}
+use Rattle.krml_trace.specs.declared.missing.Missing.TheVariants.{Absent}
 use Rattle.krml_types.specs.Holds.{is_set, holds_in, holders}
 use Rattle.krml_ast.specs.Components.{written}
 use Rattle.krml_types.specs.Instances.{part_at}
@@ -22,7 +22,7 @@ use Rattle.krml_types.proofs.Parts.{only_element}
 
 -- ---- numbers
 
-pub number_or_fault : (t : Table) (k : Option ℕ) (r : Option Ty) → IsNumberOf t k r → GivesNumber t (ok_or k Fault) r
+pub number_or_fault : (t : Table) (k : Option ℕ) (r : Option Ty) → IsNumberOf t k r → GivesNumber t (ok_or k Absent) r
 number_or_fault t (Some k) r is = is
 number_or_fault t None r is = is
 

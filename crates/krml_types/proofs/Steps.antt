@@ -14,11 +14,11 @@ use Rattle.krml_intern.specs.Table.{Table, Grows}
 use Rattle.krml_intern.specs.Unlabelled.{IsErased}
 use Rattle.krml_intern.proofs.Erasing.{is_erased_still}
 use Rattle.krml_ast.specs.declared.component.Component.{Component}
-use Rattle.krml_types.specs.declared.untyped.Untyped.{Untyped}
-use Rattle.krml_types.specs.declared.untyped.Untyped.TheVariants.{Fault, NoMemory}
+use Rattle.krml_trace.specs.declared.missing.Missing.{Missing}
+use Rattle.krml_trace.specs.declared.missing.Missing.TheVariants.{Absent, NoMemory}
 use Rattle.krml_types.specs.Definitions.{is_of}
 use Rattle.krml_types.specs.Expressions.{Comp, ArmComp, ItemComp, has, each_has, are_tests, joined, arms_from, cases_from, items_from}
-use Rattle.krml_types.specs.Gives.{Gives}
+use Rattle.krml_trace.specs.Gives.{Gives}
 use Rattle.krml_types.specs.Instances.{part_at}
 use Rattle.krml_types.specs.Judging.{Place, GivesNumber, IsNumberOf, Leads, is_none, AreParts}
 use Rattle.krml_types.specs.Parts.{demand}
@@ -41,16 +41,16 @@ unit_decides b = (λ h. go (out-Ty b) refl h, λ e. ap (λ z. is_unit_in (out-Ty
     go _ q h = absurd (cc)
 
 -- an operand has a type, by a test of its own
-pub has_by : (o : Option Ty) (a b : Ty) (s : Bool) (r : Result (Unit {0}) Untyped) → o ≡ Some b → Decides s (b ≡ a) → Gives r (demand s) → Gives r (o >>= λ c. demand (same_ty c a))
+pub has_by : (o : Option Ty) (a b : Ty) (s : Bool) (r : Result (Unit {0}) Missing) → o ≡ Some b → Decides s (b ≡ a) → Gives r (demand s) → Gives r (o >>= λ c. demand (same_ty c a))
 has_by o a b s r is d g = subst (λ z. Gives r (z >>= λ c. demand (same_ty c a))) (sym is) (subst (λ x. Gives r (demand x)) (one_test s (same_ty b a) d (same_decides b a)) g)
 
-pub has_unit_by : (o : Option Ty) (b : Ty) (r : Result (Unit {0}) Untyped) → o ≡ Some b → Gives r (demand (is_unit_in (out-Ty b))) → Gives r (o >>= λ c. demand (same_ty c ty.Unit))
+pub has_unit_by : (o : Option Ty) (b : Ty) (r : Result (Unit {0}) Missing) → o ≡ Some b → Gives r (demand (is_unit_in (out-Ty b))) → Gives r (o >>= λ c. demand (same_ty c ty.Unit))
 has_unit_by o b r is g = has_by o ty.Unit b (is_unit_in (out-Ty b)) r is (unit_decides b) g
 
 -- ---- failures
 
-pub fails : {A : Type 0} (t : Table) (o : Option A) (f : A → Option Ty) (r : Result A Untyped) (q : Result ℕ Untyped) (e : Untyped) → Gives r o → r ≡ Err e → q ≡ Err e → GivesNumber t q (o >>= f)
-fails t o f r q Fault g r_is q_is =
+pub fails : {A : Type 0} (t : Table) (o : Option A) (f : A → Option Ty) (r : Result A Missing) (q : Result ℕ Missing) (e : Missing) → Gives r o → r ≡ Err e → q ≡ Err e → GivesNumber t q (o >>= f)
+fails t o f r q Absent g r_is q_is =
     let none : o ≡ None = subst (λ x. Gives x o) r_is g in
     subst (λ x. GivesNumber t x (o >>= f)) (sym q_is) (ap (λ z. z >>= f) none)
 fails t o f r q NoMemory g r_is q_is = subst (λ x. GivesNumber t x (o >>= f)) (sym q_is) tt
@@ -99,7 +99,7 @@ each_has_end types g n = go (slice_get types n) refl
     go (Some b) is = ap (λ ts. each_has [] ts g) (get_drop types n b is) ∙ sym (ap (λ o. demand (is_none o)) is)
 
 -- what is found of a component is the type of its place
-pub component_at : (s t u : Table) (p q : Place) (kind : Component) (k j : ℕ) (types : List Ty) (r : Result ℕ Untyped) → Grows s t → p ≡ q → AreParts s q.defs kind k types
+pub component_at : (s t u : Table) (p q : Place) (kind : Component) (k j : ℕ) (types : List Ty) (r : Result ℕ Missing) → Grows s t → p ≡ q → AreParts s q.defs kind k types
     → ((x : List ℕ) (args : List Ty) → IsErased t k (ty.Named x args) → GivesNumber u r (part_at p.defs kind x args j)) → GivesNumber u r (slice_get types j)
 component_at s t u p q kind k j types r g same all is =
     subst (λ o. GivesNumber u r o) (ap (λ (p : Place). part_at p.defs kind all.name all.args j) same ∙ all.each j) (is all.name all.args (is_erased_still s t g k (ty.Named all.name all.args) all.is))
@@ -111,24 +111,24 @@ ends_at s t p q kind k j types b g same all is =
     ∙ ap is_none (ap (λ (p : Place). part_at p.defs kind all.name all.args j) same ∙ all.each j)
 
 -- a failure is handed on
-pub handed_on : (t : Table) (r : Result ℕ Untyped) (q : Result (Unit {0}) Untyped) (e : Untyped) (o : Option Ty) (x : Option (Unit {0})) → GivesNumber t r o → r ≡ Err e → q ≡ Err e → (o ≡ None → x ≡ None) → Gives q x
-handed_on t r q Fault o x g r_is q_is none = subst (λ z. Gives z x) (sym q_is) (none (subst (λ z. GivesNumber t z o) r_is g))
+pub handed_on : (t : Table) (r : Result ℕ Missing) (q : Result (Unit {0}) Missing) (e : Missing) (o : Option Ty) (x : Option (Unit {0})) → GivesNumber t r o → r ≡ Err e → q ≡ Err e → (o ≡ None → x ≡ None) → Gives q x
+handed_on t r q Absent o x g r_is q_is none = subst (λ z. Gives z x) (sym q_is) (none (subst (λ z. GivesNumber t z o) r_is g))
 handed_on t r q NoMemory o x g r_is q_is none = subst (λ z. Gives z x) (sym q_is) tt
 
-pub handed : (r q : Result (Unit {0}) Untyped) (e : Untyped) (o x : Option (Unit {0})) → Gives r o → r ≡ Err e → q ≡ Err e → (o ≡ None → x ≡ None) → Gives q x
-handed r q Fault o x g r_is q_is none = subst (λ z. Gives z x) (sym q_is) (none (subst (λ z. Gives z o) r_is g))
+pub handed : (r q : Result (Unit {0}) Missing) (e : Missing) (o x : Option (Unit {0})) → Gives r o → r ≡ Err e → q ≡ Err e → (o ≡ None → x ≡ None) → Gives q x
+handed r q Absent o x g r_is q_is none = subst (λ z. Gives z x) (sym q_is) (none (subst (λ z. Gives z o) r_is g))
 handed r q NoMemory o x g r_is q_is none = subst (λ z. Gives z x) (sym q_is) tt
 
-pub unmet_number : (t : Table) (r : Result (Unit {0}) Untyped) (q : Result ℕ Untyped) (e : Untyped) (o : Option (Unit {0})) (x : Option Ty) → Gives r o → r ≡ Err e → q ≡ Err e → (o ≡ None → x ≡ None) → GivesNumber t q x
-unmet_number t r q Fault o x g r_is q_is none = subst (λ z. GivesNumber t z x) (sym q_is) (none (subst (λ z. Gives z o) r_is g))
+pub unmet_number : (t : Table) (r : Result (Unit {0}) Missing) (q : Result ℕ Missing) (e : Missing) (o : Option (Unit {0})) (x : Option Ty) → Gives r o → r ≡ Err e → q ≡ Err e → (o ≡ None → x ≡ None) → GivesNumber t q x
+unmet_number t r q Absent o x g r_is q_is none = subst (λ z. GivesNumber t z x) (sym q_is) (none (subst (λ z. Gives z o) r_is g))
 unmet_number t r q NoMemory o x g r_is q_is none = subst (λ z. GivesNumber t z x) (sym q_is) tt
 
 -- what is given stays under an equal option
-pub seen_as : (t : Table) (r : Result ℕ Untyped) (o x : Option Ty) → o ≡ x → GivesNumber t r x → GivesNumber t r o
+pub seen_as : (t : Table) (r : Result ℕ Missing) (o x : Option Ty) → o ≡ x → GivesNumber t r x → GivesNumber t r o
 seen_as t r o x is g = subst (λ z. GivesNumber t r z) (sym is) g
 
-pub handed_number : (s t : Table) (r q : Result ℕ Untyped) (e : Untyped) (o x : Option Ty) → GivesNumber s r o → r ≡ Err e → q ≡ Err e → (o ≡ None → x ≡ None) → GivesNumber t q x
-handed_number s t r q Fault o x g r_is q_is none = subst (λ z. GivesNumber t z x) (sym q_is) (none (subst (λ z. GivesNumber s z o) r_is g))
+pub handed_number : (s t : Table) (r q : Result ℕ Missing) (e : Missing) (o x : Option Ty) → GivesNumber s r o → r ≡ Err e → q ≡ Err e → (o ≡ None → x ≡ None) → GivesNumber t q x
+handed_number s t r q Absent o x g r_is q_is none = subst (λ z. GivesNumber t z x) (sym q_is) (none (subst (λ z. GivesNumber s z o) r_is g))
 handed_number s t r q NoMemory o x g r_is q_is none = subst (λ z. GivesNumber t z x) (sym q_is) tt
 
 -- ---- branches
@@ -184,12 +184,12 @@ module _ {X : Type 0} (f : X → ItemComp) (xs : List X) (g : Scope) (i : ℕ) (
   pub items_fail : f x g ≡ None → items_from (map f (drop i xs)) g ≡ None
   items_fail is = items_head ∙ ap (λ o. o >>= λ h. items_from (map f (drop (i + 1) xs)) h) is
 
-pub unled : (r q : Result (Unit {0}) Untyped) (e : Untyped) (o x : Option Scope) (old new before after : Place) → Leads r o old new → r ≡ Err e → q ≡ Err e → (o ≡ None → x ≡ None) → Leads q x before after
-unled r q Fault o x old new before after l r_is q_is none = subst (λ z. Leads z x before after) (sym q_is) (none (subst (λ z. Leads z o old new) r_is l))
+pub unled : (r q : Result (Unit {0}) Missing) (e : Missing) (o x : Option Scope) (old new before after : Place) → Leads r o old new → r ≡ Err e → q ≡ Err e → (o ≡ None → x ≡ None) → Leads q x before after
+unled r q Absent o x old new before after l r_is q_is none = subst (λ z. Leads z x before after) (sym q_is) (none (subst (λ z. Leads z o old new) r_is l))
 unled r q NoMemory o x old new before after l r_is q_is none = subst (λ z. Leads z x before after) (sym q_is) tt
 
 -- the body of a function has the type of its result
-pub body_by : (o : Option Ty) (a r b : Ty) (s : Bool) (q : Result (Unit {0}) Untyped) → o ≡ Some a → Some r ≡ Some b → Decides s (a ≡ b) → Gives q (demand s) → Gives q (demand (is_of o r))
+pub body_by : (o : Option Ty) (a r b : Ty) (s : Bool) (q : Result (Unit {0}) Missing) → o ≡ Some a → Some r ≡ Some b → Decides s (a ≡ b) → Gives q (demand s) → Gives q (demand (is_of o r))
 body_by o a r b s q is r_is d g =
     let same : r ≡ b = cc in
     subst (λ z. Gives q (demand (is_of z r))) (sym is)

@@ -12,9 +12,9 @@ use Rattle.krml_syntax.specs.Read.{◌>>=◌}
 use Rattle.krml_syntax.specs.Types.{erased, int_ty, u32, element_of}
 use Rattle.krml_ast.specs.Typing.{in_frame}
 use Rattle.krml_intern.specs.Table.{Table}
-use Rattle.krml_types.specs.declared.untyped.Untyped.{Untyped}
+use Rattle.krml_trace.specs.declared.missing.Missing.{Missing}
 use Rattle.krml_types.specs.Expressions.{has, one_type, two_type, read_type, write_type, slice_type, frame_type, alloc_type, fill_type, may_alloc, is_result, binary_step, access_step, frame_step, type_of, layer_of}
-use Rattle.krml_types.specs.Gives.{Gives}
+use Rattle.krml_trace.specs.Gives.{Gives}
 use Rattle.krml_types.specs.Judging.{Place, GivesNumber, in_scope}
 use Rattle.krml_types.specs.Parts.{demand}
 use Rattle.krml_types.specs.Scopes.{is_framed, slot_type}
@@ -81,12 +81,12 @@ module _ (p : Place) (x : Expr) where
 -- ---- operands, of which the last was looked at from an equal place
 
 module _ (p q : Place) (same : q ≡ p) where
-  pub one_fails : (t : Table) (b : Expr) (B R : Ty) (r : Result (Unit {0}) Untyped) (z : Result ℕ Untyped) (e : Untyped)
+  pub one_fails : (t : Table) (b : Expr) (B R : Ty) (r : Result (Unit {0}) Missing) (z : Result ℕ Missing) (e : Missing)
       → Gives r (has (type_of q.defs q.tvars b) B q.scope) → r ≡ Err e → z ≡ Err e
       → GivesNumber t z (one_type (type_of p.defs p.tvars b) B R p.scope)
   one_fails t b B R r z e g r_is z_is = fails t (has (type_of p.defs p.tvars b) B p.scope) (λ u. Some R) r z e (moved_has q p b B r same g) r_is z_is
 
-  pub one_has : (t : Table) (b : Expr) (B R : Ty) (z : Result ℕ Untyped)
+  pub one_has : (t : Table) (b : Expr) (B R : Ty) (z : Result ℕ Missing)
       → has (type_of q.defs q.tvars b) B q.scope ≡ Some tt → GivesNumber t z (Some R)
       → GivesNumber t z (one_type (type_of p.defs p.tvars b) B R p.scope)
   one_has t b B R z b_is g = seen_as t z (one_type (type_of p.defs p.tvars b) B R p.scope) (Some R) (ap (λ o. o >>= λ u. Some R) (sym (same_has q p b B same) ∙ b_is)) g
@@ -96,14 +96,14 @@ module _ (p q : Place) (same : q ≡ p) where
       → two_type (type_of p.defs p.tvars a) (type_of p.defs p.tvars b) A B R p.scope ≡ one_type (type_of p.defs p.tvars b) B R p.scope
   second_is a b A B R a_is = ap (λ o. o >>= λ u. has (type_of p.defs p.tvars b) B p.scope >>= λ w. Some R) a_is
 
-  pub second_fails : (t : Table) (a b : Expr) (A B R : Ty) (r : Result (Unit {0}) Untyped) (z : Result ℕ Untyped) (e : Untyped)
+  pub second_fails : (t : Table) (a b : Expr) (A B R : Ty) (r : Result (Unit {0}) Missing) (z : Result ℕ Missing) (e : Missing)
       → has (type_of p.defs p.tvars a) A p.scope ≡ Some tt → Gives r (has (type_of q.defs q.tvars b) B q.scope) → r ≡ Err e → z ≡ Err e
       → GivesNumber t z (two_type (type_of p.defs p.tvars a) (type_of p.defs p.tvars b) A B R p.scope)
   second_fails t a b A B R r z e a_is g r_is z_is =
       seen_as t z (two_type (type_of p.defs p.tvars a) (type_of p.defs p.tvars b) A B R p.scope) (one_type (type_of p.defs p.tvars b) B R p.scope) (second_is a b A B R a_is)
       (one_fails t b B R r z e g r_is z_is)
 
-  pub second_has : (t : Table) (a b : Expr) (A B R : Ty) (z : Result ℕ Untyped)
+  pub second_has : (t : Table) (a b : Expr) (A B R : Ty) (z : Result ℕ Missing)
       → has (type_of p.defs p.tvars a) A p.scope ≡ Some tt → has (type_of q.defs q.tvars b) B q.scope ≡ Some tt → GivesNumber t z (Some R)
       → GivesNumber t z (two_type (type_of p.defs p.tvars a) (type_of p.defs p.tvars b) A B R p.scope)
   second_has t a b A B R z a_is b_is g =
@@ -111,7 +111,7 @@ module _ (p q : Place) (same : q ≡ p) where
       (one_has t b B R z b_is g)
 
   -- the index of a buffer
-  pub index_fails : (t : Table) (a i : Expr) (v : Ty) (r : Result (Unit {0}) Untyped) (z : Result ℕ Untyped) (e : Untyped) (x : Option Ty)
+  pub index_fails : (t : Table) (a i : Expr) (v : Ty) (r : Result (Unit {0}) Missing) (z : Result ℕ Missing) (e : Missing) (x : Option Ty)
       → type_of p.defs p.tvars a p.scope ≡ Some v → Gives r (has (type_of q.defs q.tvars i) u32 q.scope) → r ≡ Err e → z ≡ Err e
       → (read_type (type_of p.defs p.tvars a) (type_of p.defs p.tvars i) p.scope ≡ None → x ≡ None) → GivesNumber t z x
   index_fails t a i v r z e x a_is g r_is z_is on = unmet_number t r z e (has (type_of p.defs p.tvars i) u32 p.scope) x (moved_has q p i u32 r same g) r_is z_is (λ none.
@@ -124,7 +124,7 @@ module _ (p q : Place) (same : q ≡ p) where
       ∙ ap (λ o. o >>= λ u. element_of (out-Ty v)) (sym (same_has q p i u32 same) ∙ i_is)
 
   -- a first element
-  pub filled_at : (t : Table) (a : Expr) (v : Ty) (z : Result ℕ Untyped) → GivesNumber t z (one_type (type_of q.defs q.tvars a) v (ty.Buf v) q.scope)
+  pub filled_at : (t : Table) (a : Expr) (v : Ty) (z : Result ℕ Missing) → GivesNumber t z (one_type (type_of q.defs q.tvars a) v (ty.Buf v) q.scope)
       → GivesNumber t z (one_type (type_of p.defs p.tvars a) v (ty.Buf v) p.scope)
   filled_at t a v z g = subst (λ (y : Place). GivesNumber t z (one_type (type_of y.defs y.tvars a) v (ty.Buf v) y.scope)) same g
 
@@ -147,7 +147,7 @@ slice_none p r d is = ap (λ o. o >>= λ b. one_type (type_of p.defs p.tvars d) 
 -- ---- frames
 
 module _ (p f : Place) (slots : List Slot) (a : Expr) (f_is : f ≡ in_scope p (in_frame slots p.scope)) where
-  pub frame_fails : (s t : Table) (r z : Result ℕ Untyped) (e : Untyped) → GivesNumber s r (type_of f.defs f.tvars a f.scope) → r ≡ Err e → z ≡ Err e
+  pub frame_fails : (s t : Table) (r z : Result ℕ Missing) (e : Missing) → GivesNumber s r (type_of f.defs f.tvars a f.scope) → r ≡ Err e → z ≡ Err e
       → GivesNumber t z (frame_type p.defs slots (type_of p.defs p.tvars a) p.scope)
   frame_fails s t r z e g r_is z_is =
       handed_number s t r z e (type_of p.defs p.tvars a (in_frame slots p.scope)) (frame_type p.defs slots (type_of p.defs p.tvars a) p.scope)
@@ -158,7 +158,7 @@ module _ (p f : Place) (slots : List Slot) (a : Expr) (f_is : f ≡ in_scope p (
       → frame_type p.defs slots (type_of p.defs p.tvars a) p.scope ≡ (demand (is_result p.defs v) >>= λ u. Some v)
   frame_then v v_is = ap (λ o. o >>= λ b. demand (is_result p.defs b) >>= λ u. Some b) (sym (same_type f (in_scope p (in_frame slots p.scope)) a f_is) ∙ v_is)
 
-pub result_fails : (t : Table) (b : Bool) (v : Ty) (r : Result (Unit {0}) Untyped) (z : Result ℕ Untyped) (e : Untyped) → Gives r (demand b) → r ≡ Err e → z ≡ Err e
+pub result_fails : (t : Table) (b : Bool) (v : Ty) (r : Result (Unit {0}) Missing) (z : Result ℕ Missing) (e : Missing) → Gives r (demand b) → r ≡ Err e → z ≡ Err e
     → GivesNumber t z (demand b >>= λ u. Some v)
 result_fails t b v r z e g r_is z_is = fails t (demand b) (λ u. Some v) r z e g r_is z_is
 

@@ -16,10 +16,10 @@ use Rattle.krml_intern.specs.Table.{Table, Means, Grows}
 use Rattle.krml_intern.specs.Unlabelled.{IsErased}
 use Rattle.krml_intern.proofs.Erasing.{is_erased_still}
 use Rattle.krml_intern.proofs.Puts.{grows_on}
-use Rattle.krml_types.specs.declared.untyped.Untyped.{Untyped}
-use Rattle.krml_types.specs.declared.untyped.Untyped.TheVariants.{Fault, NoMemory}
+use Rattle.krml_trace.specs.declared.missing.Missing.{Missing}
+use Rattle.krml_trace.specs.declared.missing.Missing.TheVariants.{Absent, NoMemory}
 use Rattle.krml_types.specs.Expressions.{Comp, has, one_type, are_tests, items_from, flow_step, loop_step, turn_type, let_type, layer_of, type_of, item_of, case_of}
-use Rattle.krml_types.specs.Gives.{Gives}
+use Rattle.krml_trace.specs.Gives.{Gives}
 use Rattle.krml_types.specs.Judging.{Place, Leads, in_scope}
 use Rattle.krml_types.specs.Parts.{demand, is_value}
 use Rattle.krml_types.specs.Types.{is_type}
@@ -57,8 +57,8 @@ grows_from s t u is g = subst (λ (t : Table). Grows t u) is g
 pub grows_by : (s t u v : Table) → Grows s t → u ≡ t → Grows u v → Grows s v
 grows_by s t u v g is h = grows_on s t v g (grows_from u t v is h)
 
-pub unmet : (r q : Result (Unit {0}) Untyped) (e : Untyped) (o : Option (Unit {0})) (x : Option Scope) (old new : Place) → Gives r o → r ≡ Err e → q ≡ Err e → (o ≡ None → x ≡ None) → Leads q x old new
-unmet r q Fault o x old new g r_is q_is none = subst (λ z. Leads z x old new) (sym q_is) (none (subst (λ z. Gives z o) r_is g))
+pub unmet : (r q : Result (Unit {0}) Missing) (e : Missing) (o : Option (Unit {0})) (x : Option Scope) (old new : Place) → Gives r o → r ≡ Err e → q ≡ Err e → (o ≡ None → x ≡ None) → Leads q x old new
+unmet r q Absent o x old new g r_is q_is none = subst (λ z. Leads z x old new) (sym q_is) (none (subst (λ z. Gives z o) r_is g))
 unmet r q NoMemory o x old new g r_is q_is none = subst (λ z. Leads z x old new) (sym q_is) tt
 
 pub on_any : {A E P : Type 0} (r : Result A E) → P → OnOk r P

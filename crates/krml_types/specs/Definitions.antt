@@ -21,8 +21,8 @@ use Rattle.krml_types.specs.Types.{same_ty, is_flat, is_type_by, are_arguments_b
 use Rattle.krml_types.specs.Parts.{is_value}
 use Rattle.krml_types.specs.Expressions.{is_result, type_of}
 use Rattle.krml_types.specs.Judging.{Place, in_scope}
-use Rattle.krml_types.specs.declared.untyped.Untyped.{Untyped}
-use Rattle.krml_types.specs.declared.untyped.Untyped.TheVariants.{Fault, NoMemory}
+use Rattle.krml_trace.specs.declared.missing.Missing.{Missing}
+use Rattle.krml_trace.specs.declared.missing.Missing.TheVariants.{Absent, NoMemory}
 
 -- ---- names
 
@@ -80,9 +80,9 @@ abbrev pub is_body : List Def → List (List ℕ) → List Field → Ty → Expr
 is_body defs vars params result body = is_of (type_of defs vars body (body_scope params)) (erased result)
 
 -- the parameters go into scope before the variables that stand there
-abbrev pub ParamsGo : Result (Unit {0}) Untyped → List Field → Place → Place → Type 0
+abbrev pub ParamsGo : Result (Unit {0}) Missing → List Field → Place → Place → Type 0
 ParamsGo (Ok u) params old new = new ≡ in_scope old (record { vars = param_vars params ++ old.scope.vars; frame = old.scope.frame })
-ParamsGo (Err Fault) params old new = ⊥
+ParamsGo (Err Absent) params old new = ⊥
 ParamsGo (Err NoMemory) params old new = Unit {0}
 
 -- type variables, parameters and result are well formed

@@ -1,6 +1,7 @@
 -- The type of an expression in a scope, computed: one combinator a form.
 use Rattle.std.specs.Prelude.{ℕ, ◌^◌, Bool, ◌&&◌, ◌||◌, nat_lt, nat_le, List, [], ◌∷◌, Option, Some, None}
 use Rattle.krml_trace.specs.Width.{bits}
+use Rattle.krml_trace.specs.Limits.{max_elements}
 use Rattle.krml_syntax.specs.declared.tree.IntTy.{IntTy}
 use Rattle.krml_syntax.specs.declared.tree.Ty.{Ty, out-Ty}
 use Rattle.krml_syntax.specs.declared.tree.Ty.TheVariants as t
@@ -117,7 +118,7 @@ frame_type defs slots c g = c (in_frame slots g) >>= λ a. demand (is_result def
 
 -- whether a buffer of so many elements of a type may be made
 abbrev pub may_alloc : List Def → List (List ℕ) → Ty → ℕ → Bool
-may_alloc defs tvars b n = is_type defs tvars b && is_flat defs b && nat_le 1 n && nat_le n 65536
+may_alloc defs tvars b n = is_type defs tvars b && is_flat defs b && nat_le 1 n && nat_le n max_elements
 
 abbrev pub alloc_type : List Def → List (List ℕ) → Ty → ℕ → Comp → Comp
 alloc_type defs tvars b n c g = demand (is_framed g.frame && may_alloc defs tvars b n) >>= λ u. one_type c (erased b) (t.Buf (erased b)) g

@@ -12,8 +12,8 @@ use Rattle.krml_intern.specs.Table.{Table}
 use Rattle.krml_intern.specs.Unlabelled.{IsErased}
 use Rattle.krml_types.specs.declared.applied.Applied.{Applied}
 use Rattle.krml_ast.specs.declared.component.Component.{Component}
-use Rattle.krml_types.specs.declared.untyped.Untyped.{Untyped}
-use Rattle.krml_types.specs.declared.untyped.Untyped.TheVariants.{Fault, NoMemory}
+use Rattle.krml_trace.specs.declared.missing.Missing.{Missing}
+use Rattle.krml_trace.specs.declared.missing.Missing.TheVariants.{Absent, NoMemory}
 use Rattle.krml_types.specs.Instances.{Instance, part_at}
 
 -- ---- where an expression stands
@@ -53,9 +53,9 @@ pub record IsAt (t : Table) (k : ℕ) : Type 0 where
   pub is : IsErased t k (ty.Named name args)
 
 -- what a function that may find no type gives: the number of just the type that its definition does, or no answer for want of memory
-abbrev pub GivesNumber : Table → Result ℕ Untyped → Option Ty → Type 0
+abbrev pub GivesNumber : Table → Result ℕ Missing → Option Ty → Type 0
 GivesNumber t (Ok k) r = (a : Ty) × (r ≡ Some a) × IsErased t k a
-GivesNumber t (Err Fault) r = r ≡ None
+GivesNumber t (Err Absent) r = r ≡ None
 GivesNumber t (Err NoMemory) r = Unit {0}
 
 -- the number of a type, where there is one
@@ -81,15 +81,15 @@ pub record AreApplied (t : Table) (defs : List Def) (at : Applied) (i : Instance
   pub takes : AreParts t defs at.kind at.takes i.takes
   pub gives : IsErased t at.gives i.gives
 
-abbrev pub GivesApplied : Table → List Def → Result Applied Untyped → Option Instance → Type 0
+abbrev pub GivesApplied : Table → List Def → Result Applied Missing → Option Instance → Type 0
 GivesApplied t defs (Ok at) r = (i : Instance) × (r ≡ Some i) × AreApplied t defs at i
-GivesApplied t defs (Err Fault) r = r ≡ None
+GivesApplied t defs (Err Absent) r = r ≡ None
 GivesApplied t defs (Err NoMemory) r = Unit {0}
 
 -- the number at which a pattern's components are found
-abbrev pub GivesParts : Table → List Def → Component → Result ℕ Untyped → Option (List Ty) → Type 0
+abbrev pub GivesParts : Table → List Def → Component → Result ℕ Missing → Option (List Ty) → Type 0
 GivesParts t defs kind (Ok k) r = (types : List Ty) × (r ≡ Some types) × AreParts t defs kind k types
-GivesParts t defs kind (Err Fault) r = r ≡ None
+GivesParts t defs kind (Err Absent) r = r ≡ None
 GivesParts t defs kind (Err NoMemory) r = Unit {0}
 
 -- ---- what is kept
@@ -111,9 +111,9 @@ pub record IsJudge (defs : List Def) (t : Table) (components : Found) (vars : Li
 -- ---- patterns
 
 -- a function that adds the variables of patterns to those in scope
-abbrev pub Binds : Result (Unit {0}) Untyped → Option Vars → Place → Place → Type 0
+abbrev pub Binds : Result (Unit {0}) Missing → Option Vars → Place → Place → Type 0
 Binds (Ok u) r old new = (vars : Vars) × (r ≡ Some vars) × (new ≡ in_scope old (record { vars = vars; frame = old.scope.frame }))
-Binds (Err Fault) r old new = r ≡ None
+Binds (Err Absent) r old new = r ≡ None
 Binds (Err NoMemory) r old new = Unit {0}
 
 -- ---- fields
@@ -126,7 +126,7 @@ place_in (f ∷ fields) x = if bytes_eq f.name x then Some 0 else option_map suc
 -- ---- items
 
 -- a function that goes into the scope behind items
-abbrev pub Leads : Result (Unit {0}) Untyped → Option Scope → Place → Place → Type 0
+abbrev pub Leads : Result (Unit {0}) Missing → Option Scope → Place → Place → Type 0
 Leads (Ok u) r old new = (g : Scope) × (r ≡ Some g) × (new ≡ in_scope old g)
-Leads (Err Fault) r old new = r ≡ None
+Leads (Err Absent) r old new = r ≡ None
 Leads (Err NoMemory) r old new = Unit {0}

@@ -1,7 +1,6 @@
 pub mod Check
 pub mod Definitions
 pub mod Expressions
-pub mod Gives
 pub mod Holds
 pub mod Instances
 pub mod Judging

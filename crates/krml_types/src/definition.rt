@@ -5,7 +5,7 @@ ghost use Rattle.krml_syntax.specs.declared.tree.Ty.{out-Ty};
 ghost use Rattle.krml_ast.specs.Names.{fun_named};
 ghost use Rattle.krml_intern.specs.Table.{Grows};
 ghost use Rattle.krml_types.specs.Expressions.{is_result as is_result_ty};
-ghost use Rattle.krml_types.specs.Gives.{Gives};
+ghost use Rattle.krml_trace.specs.Gives.{Gives};
 ghost use Rattle.krml_types.specs.Parts.{demand};
 ghost use Rattle.krml_types.specs.Definitions.{ParamsGo};
 ghost use Rattle.krml_types.specs.Definitions.{are_fields, are_cons, all_fit, is_body, is_head, is_int_in, is_outside_in, are_outside, is_answer_in, is_entry, fun_ok, well_typed};
@@ -14,10 +14,10 @@ use crate::formed::{are_arguments_before, is_flat, is_type_before, is_unit, is_v
 use crate::index::Index;
 use crate::judge::Judge;
 use crate::names::{all_new, are_cons_distinct, are_distinct, are_fields_distinct, is_new};
-use crate::untyped::{Untyped, demand};
+use crate::demands::demand;
 use krml_ast::NameKind;
 use krml_syntax::{Con, Def, Expr, Field, IntTy, Ty};
-use krml_trace::{Name, NoMemory};
+use krml_trace::{Missing, Name, NoMemory};
 use std::alloc::AllocError;
 
 fn are_fields(index: &Index<'_>, k: usize, tvars: &[Name], fields: &[Field]) -> bool
@@ -62,7 +62,7 @@ fn is_result(index: &Index<'_>, a: &Ty) -> bool
 
 impl<'n, 'a> Judge<'n, 'a> {
     /// Puts the parameters into scope, the first one as the newest.
-    fn params(&mut self, params: &'a [Field]) -> Result<(), Untyped>
+    fn params(&mut self, params: &'a [Field]) -> Result<(), Missing>
         ensures value { ParamsGo result params.now self.old.place self.new.place }
         ensures grows { OnOk result (Grows self.old.table self.new.table) }
     {
@@ -82,7 +82,7 @@ impl<'n, 'a> Judge<'n, 'a> {
         params: &'a [Field],
         gives: &'a Ty,
         body: &'a Expr,
-    ) -> Result<(), Untyped>
+    ) -> Result<(), Missing>
         ensures value { Gives result (demand (is_body self.old.place.defs tvars.now params.now gives.now body.now)) }
         ensures defs { OnOk result (self.new.place.defs ≡ self.old.place.defs) }
     {
@@ -105,8 +105,8 @@ impl<'n, 'a> Judge<'n, 'a> {
     {
         match self.body(tvars, params, gives, body) {
             Ok(()) => Ok(true),
-            Err(Untyped::Fault) => Ok(false),
-            Err(Untyped::NoMemory) => Err(AllocError),
+            Err(Missing::Absent) => Ok(false),
+            Err(Missing::NoMemory) => Err(AllocError),
         }
     }
 

@@ -5,7 +5,7 @@ ghost use Rattle.krml_syntax.specs.Types.{int_ty};
 ghost use Rattle.krml_ast.specs.Names.{table_named};
 ghost use Rattle.krml_intern.specs.Table.{Grows};
 ghost use Rattle.krml_intern.specs.Unlabelled.{IsErased};
-ghost use Rattle.krml_types.specs.Gives.{Gives};
+ghost use Rattle.krml_trace.specs.Gives.{Gives};
 ghost use Rattle.krml_types.specs.Instances.{Instance};
 ghost use Rattle.krml_types.specs.Judging.{GivesNumber, IsNumberOf, IsKnown, IsAt, AreParts, AreApplied, Leads};
 ghost use Rattle.krml_types.specs.Expressions.{has, one_type, each_has, apply_type, are_tests, num_type, joined, may_alloc, items_from, arms_from, cases_from, binary_step, unary_step, flow_step, loop_step, access_step, frame_step, applied_step, part_step, turn_type, type_of, item_of, arm_of, case_of, layer_of, is_result};
@@ -13,10 +13,10 @@ ghost use Rattle.krml_types.specs.Expressions.{has, one_type, each_has, apply_ty
 use crate::applied::Applied;
 use crate::formed::{is_flat, is_type, is_unit};
 use crate::judge::Judge;
-use crate::untyped::{Untyped, demand};
+use crate::demands::demand;
 use krml_ast::Component;
 use krml_syntax::{Arm, Case, Expr, IntTy, Item, Ty};
-use krml_trace::{Name, Width};
+use krml_trace::{MAX_ELEMENTS, Missing, Name, Width};
 
 /// The type of indices and lengths.
 const U32: IntTy = IntTy {
@@ -24,13 +24,10 @@ const U32: IntTy = IntTy {
     secret: false,
 };
 
-/// How many elements a buffer may have.
-const MAX_ELEMENTS: u32 = 65536;
-
 impl<'n, 'a> Judge<'n, 'a> {
     /// The type of an expression where it stands.
     #[cycle(check)]
-    pub fn type_of(&mut self, e: &'a Expr) -> Result<usize, Untyped>
+    pub fn type_of(&mut self, e: &'a Expr) -> Result<usize, Missing>
         ensures value { GivesNumber self.new.table result (type_of self.old.place.defs self.old.place.tvars e.now self.old.place.scope) }
         ensures place { OnOk result (self.new.place ≡ self.old.place) }
         ensures grows { OnOk result (Grows self.old.table self.new.table) }
@@ -53,7 +50,7 @@ impl<'n, 'a> Judge<'n, 'a> {
 
     /// An operation on two numbers.
     #[cycle(check)]
-    fn binary(&mut self, e: &'a Expr) -> Result<usize, Untyped>
+    fn binary(&mut self, e: &'a Expr) -> Result<usize, Missing>
         ensures value { GivesNumber self.new.table result (binary_step (layer_of self.old.place.defs self.old.place.tvars e.now) self.old.place.scope) }
         ensures place { OnOk result (self.new.place ≡ self.old.place) }
         ensures grows { OnOk result (Grows self.old.table self.new.table) }
@@ -74,13 +71,13 @@ impl<'n, 'a> Judge<'n, 'a> {
                 self.has_int(b.get(), *i)?;
                 self.bool()
             }
-            _ => Err(Untyped::Fault),
+            _ => Err(Missing::Absent),
         }
     }
 
     /// An operation on one number or truth value.
     #[cycle(check)]
-    fn unary(&mut self, e: &'a Expr) -> Result<usize, Untyped>
+    fn unary(&mut self, e: &'a Expr) -> Result<usize, Missing>
         ensures value { GivesNumber self.new.table result (unary_step self.old.place.defs (layer_of self.old.place.defs self.old.place.tvars e.now) self.old.place.scope) }
         ensures place { OnOk result (self.new.place ≡ self.old.place) }
         ensures grows { OnOk result (Grows self.old.table self.new.table) }
@@ -103,13 +100,13 @@ impl<'n, 'a> Judge<'n, 'a> {
                 self.has_int(a.get(), U32)?;
                 self.public(i)
             }
-            _ => Err(Untyped::Fault),
+            _ => Err(Missing::Absent),
         }
     }
 
     /// Branches, or a block.
     #[cycle(check)]
-    fn flow(&mut self, e: &'a Expr) -> Result<usize, Untyped>
+    fn flow(&mut self, e: &'a Expr) -> Result<usize, Missing>
         ensures value { GivesNumber self.new.table result (flow_step (layer_of self.old.place.defs self.old.place.tvars e.now) self.old.place.scope) }
         ensures place { OnOk result (self.new.place ≡ self.old.place) }
         ensures grows { OnOk result (Grows self.old.table self.new.table) }
@@ -134,13 +131,13 @@ impl<'n, 'a> Judge<'n, 'a> {
                 Ok(k)
             }
             Expr::Cases(cases) => self.cases(cases.as_slice()),
-            _ => Err(Untyped::Fault),
+            _ => Err(Missing::Absent),
         }
     }
 
     /// A loop.
     #[cycle(check)]
-    fn repeated(&mut self, e: &'a Expr) -> Result<usize, Untyped>
+    fn repeated(&mut self, e: &'a Expr) -> Result<usize, Missing>
         ensures value { GivesNumber self.new.table result (loop_step (layer_of self.old.place.defs self.old.place.tvars e.now) self.old.place.scope) }
         ensures place { OnOk result (self.new.place ≡ self.old.place) }
         ensures grows { OnOk result (Grows self.old.table self.new.table) }
@@ -158,13 +155,13 @@ impl<'n, 'a> Judge<'n, 'a> {
                 self.has_int(b.get(), U32)?;
                 self.turn(c.get(), x)
             }
-            _ => Err(Untyped::Fault),
+            _ => Err(Missing::Absent),
         }
     }
 
     /// What is done with a buffer.
     #[cycle(check)]
-    fn access(&mut self, e: &'a Expr) -> Result<usize, Untyped>
+    fn access(&mut self, e: &'a Expr) -> Result<usize, Missing>
         ensures value { GivesNumber self.new.table result (access_step (layer_of self.old.place.defs self.old.place.tvars e.now) self.old.place.scope) }
         ensures place { OnOk result (self.new.place ≡ self.old.place) }
         ensures grows { OnOk result (Grows self.old.table self.new.table) }
@@ -189,13 +186,13 @@ impl<'n, 'a> Judge<'n, 'a> {
                 self.has_int(n.get(), U32)?;
                 self.buf(element)
             }
-            _ => Err(Untyped::Fault),
+            _ => Err(Missing::Absent),
         }
     }
 
     /// A frame, or a buffer that is made in one.
     #[cycle(check)]
-    fn framed(&mut self, e: &'a Expr) -> Result<usize, Untyped>
+    fn framed(&mut self, e: &'a Expr) -> Result<usize, Missing>
         ensures value { GivesNumber self.new.table result (frame_step self.old.place.defs self.old.place.tvars (layer_of self.old.place.defs self.old.place.tvars e.now) self.old.place.scope) }
         ensures place { OnOk result (self.new.place ≡ self.old.place) }
         ensures grows { OnOk result (Grows self.old.table self.new.table) }
@@ -217,13 +214,13 @@ impl<'n, 'a> Judge<'n, 'a> {
                 let element = self.slot_type(*k)?;
                 self.filled(a.get(), element)
             }
-            _ => Err(Untyped::Fault),
+            _ => Err(Missing::Absent),
         }
     }
 
     /// A value of a struct or a sum, or a call.
     #[cycle(check)]
-    fn applied(&mut self, e: &'a Expr) -> Result<usize, Untyped>
+    fn applied(&mut self, e: &'a Expr) -> Result<usize, Missing>
         ensures value { GivesNumber self.new.table result (applied_step self.old.place.defs self.old.place.tvars (layer_of self.old.place.defs self.old.place.tvars e.now) self.old.place.scope) }
         ensures place { OnOk result (self.new.place ≡ self.old.place) }
         ensures grows { OnOk result (Grows self.old.table self.new.table) }
@@ -241,13 +238,13 @@ impl<'n, 'a> Judge<'n, 'a> {
                 let at = self.call_at(x, args.as_slice())?;
                 self.apply(es.as_slice(), at)
             }
-            _ => Err(Untyped::Fault),
+            _ => Err(Missing::Absent),
         }
     }
 
     /// A part of a struct or a sum.
     #[cycle(check)]
-    fn part(&mut self, e: &'a Expr) -> Result<usize, Untyped>
+    fn part(&mut self, e: &'a Expr) -> Result<usize, Missing>
         ensures value { GivesNumber self.new.table result (part_step self.old.place.defs (layer_of self.old.place.defs self.old.place.tvars e.now) self.old.place.scope) }
         ensures place { OnOk result (self.new.place ≡ self.old.place) }
         ensures grows { OnOk result (Grows self.old.table self.new.table) }
@@ -265,13 +262,13 @@ impl<'n, 'a> Judge<'n, 'a> {
                 let k = self.type_of(a.get())?;
                 self.part_type(x, *j, k)
             }
-            _ => Err(Untyped::Fault),
+            _ => Err(Missing::Absent),
         }
     }
 
     /// The expression has the type.
     #[cycle(check)]
-    fn has(&mut self, e: &'a Expr, k: usize) -> Result<(), Untyped>
+    fn has(&mut self, e: &'a Expr, k: usize) -> Result<(), Missing>
         ensures value { (a : Ty) → IsErased self.old.table k a → Gives result (has (type_of self.old.place.defs self.old.place.tvars e.now) a self.old.place.scope) }
         ensures place { OnOk result (self.new.place ≡ self.old.place) }
         ensures grows { OnOk result (Grows self.old.table self.new.table) }
@@ -282,7 +279,7 @@ impl<'n, 'a> Judge<'n, 'a> {
 
     /// The expression is a truth value.
     #[cycle(check)]
-    fn has_bool(&mut self, e: &'a Expr) -> Result<(), Untyped>
+    fn has_bool(&mut self, e: &'a Expr) -> Result<(), Missing>
         ensures value { Gives result (has (type_of self.old.place.defs self.old.place.tvars e.now) Bool self.old.place.scope) }
         ensures place { OnOk result (self.new.place ≡ self.old.place) }
         ensures grows { OnOk result (Grows self.old.table self.new.table) }
@@ -293,7 +290,7 @@ impl<'n, 'a> Judge<'n, 'a> {
 
     /// The expression gives nothing.
     #[cycle(check)]
-    fn has_unit(&mut self, e: &'a Expr) -> Result<(), Untyped>
+    fn has_unit(&mut self, e: &'a Expr) -> Result<(), Missing>
         ensures value { Gives result (has (type_of self.old.place.defs self.old.place.tvars e.now) Unit self.old.place.scope) }
         ensures place { OnOk result (self.new.place ≡ self.old.place) }
         ensures grows { OnOk result (Grows self.old.table self.new.table) }
@@ -304,7 +301,7 @@ impl<'n, 'a> Judge<'n, 'a> {
 
     /// The expression has the integer type, without its label.
     #[cycle(check)]
-    fn has_int(&mut self, e: &'a Expr, i: IntTy) -> Result<(), Untyped>
+    fn has_int(&mut self, e: &'a Expr, i: IntTy) -> Result<(), Missing>
         ensures value { Gives result (has (type_of self.old.place.defs self.old.place.tvars e.now) (int_ty i) self.old.place.scope) }
         ensures place { OnOk result (self.new.place ≡ self.old.place) }
         ensures grows { OnOk result (Grows self.old.table self.new.table) }
@@ -315,7 +312,7 @@ impl<'n, 'a> Judge<'n, 'a> {
 
     /// A first element gives a buffer.
     #[cycle(check)]
-    fn filled(&mut self, e: &'a Expr, element: usize) -> Result<usize, Untyped>
+    fn filled(&mut self, e: &'a Expr, element: usize) -> Result<usize, Missing>
         requires { IsKnown self.old.table element }
         ensures value { (a : Ty) → IsErased self.old.table element a → GivesNumber self.new.table result (one_type (type_of self.old.place.defs self.old.place.tvars e.now) a (Buf a) self.old.place.scope) }
         ensures place { OnOk result (self.new.place ≡ self.old.place) }
@@ -327,7 +324,7 @@ impl<'n, 'a> Judge<'n, 'a> {
 
     /// Operands of the types that an instance takes give what it gives.
     #[cycle(check)]
-    fn apply(&mut self, es: &'a [Expr], at: Applied) -> Result<usize, Untyped>
+    fn apply(&mut self, es: &'a [Expr], at: Applied) -> Result<usize, Missing>
         requires { IsAt self.old.table at.takes }
         ensures value { (i : Instance) → AreApplied self.old.table self.old.place.defs at i → GivesNumber self.new.table result (apply_type (map (type_of self.old.place.defs self.old.place.tvars) es.now) (Some i) self.old.place.scope) }
         ensures place { OnOk result (self.new.place ≡ self.old.place) }
@@ -339,7 +336,7 @@ impl<'n, 'a> Judge<'n, 'a> {
 
     /// Each expression has the type of its component.
     #[cycle(check)]
-    fn each_has(&mut self, es: &'a [Expr], kind: Component, k: usize) -> Result<(), Untyped>
+    fn each_has(&mut self, es: &'a [Expr], kind: Component, k: usize) -> Result<(), Missing>
         requires { IsAt self.old.table k }
         ensures value { (types : List Ty) → AreParts self.old.table self.old.place.defs kind k types → Gives result (each_has (map (type_of self.old.place.defs self.old.place.tvars) es.now) types self.old.place.scope) }
         ensures place { OnOk result (self.new.place ≡ self.old.place) }
@@ -354,7 +351,7 @@ impl<'n, 'a> Judge<'n, 'a> {
 
     /// The body of a `for` over a variable.
     #[cycle(check)]
-    fn turn(&mut self, e: &'a Expr, x: &'a Name) -> Result<usize, Untyped>
+    fn turn(&mut self, e: &'a Expr, x: &'a Name) -> Result<usize, Missing>
         ensures value { GivesNumber self.new.table result (turn_type x.now (type_of self.old.place.defs self.old.place.tvars e.now) self.old.place.scope) }
         ensures place { OnOk result (self.new.place ≡ self.old.place) }
         ensures grows { OnOk result (Grows self.old.table self.new.table) }
@@ -371,7 +368,7 @@ impl<'n, 'a> Judge<'n, 'a> {
 
     /// The one type of the branches of a match on a value of a type.
     #[cycle(check)]
-    fn arms(&mut self, arms: &'a [Arm], k: usize) -> Result<usize, Untyped>
+    fn arms(&mut self, arms: &'a [Arm], k: usize) -> Result<usize, Missing>
         requires { IsKnown self.old.table k }
         ensures value { (s : Ty) → IsErased self.old.table k s → GivesNumber self.new.table result (arms_from (map (arm_of self.old.place.defs self.old.place.tvars) arms.now) s self.old.place.scope None) }
         ensures place { OnOk result (self.new.place ≡ self.old.place) }
@@ -382,11 +379,11 @@ impl<'n, 'a> Judge<'n, 'a> {
             let j = self.arm(arm, k)?;
             found = Some(self.joined(found, j)?);
         }
-        found.ok_or(Untyped::Fault)
+        found.ok_or(Missing::Absent)
     }
 
     #[cycle(check)]
-    fn arm(&mut self, arm: &'a Arm, k: usize) -> Result<usize, Untyped>
+    fn arm(&mut self, arm: &'a Arm, k: usize) -> Result<usize, Missing>
         requires { IsKnown self.old.table k }
         ensures value { (s : Ty) → IsErased self.old.table k s → GivesNumber self.new.table result (arm_of self.old.place.defs self.old.place.tvars arm.now s self.old.place.scope) }
         ensures place { OnOk result (self.new.place ≡ self.old.place) }
@@ -402,7 +399,7 @@ impl<'n, 'a> Judge<'n, 'a> {
 
     /// Into the scope behind the items.
     #[cycle(check)]
-    fn items(&mut self, items: &'a [Item]) -> Result<(), Untyped>
+    fn items(&mut self, items: &'a [Item]) -> Result<(), Missing>
         ensures value { Leads result (items_from (map (item_of self.old.place.defs self.old.place.tvars) items.now) self.old.place.scope) self.old.place self.new.place }
         ensures grows { OnOk result (Grows self.old.table self.new.table) }
     {
@@ -413,7 +410,7 @@ impl<'n, 'a> Judge<'n, 'a> {
     }
 
     #[cycle(check)]
-    fn item(&mut self, item: &'a Item) -> Result<(), Untyped>
+    fn item(&mut self, item: &'a Item) -> Result<(), Missing>
         ensures value { Leads result (item_of self.old.place.defs self.old.place.tvars item.now self.old.place.scope) self.old.place self.new.place }
         ensures grows { OnOk result (Grows self.old.table self.new.table) }
     {
@@ -431,7 +428,7 @@ impl<'n, 'a> Judge<'n, 'a> {
 
     /// The one type of cases.
     #[cycle(check)]
-    fn cases(&mut self, cases: &'a [Case]) -> Result<usize, Untyped>
+    fn cases(&mut self, cases: &'a [Case]) -> Result<usize, Missing>
         ensures value { GivesNumber self.new.table result (cases_from (map (case_of self.old.place.defs self.old.place.tvars) cases.now) self.old.place.scope None) }
         ensures place { OnOk result (self.new.place ≡ self.old.place) }
         ensures grows { OnOk result (Grows self.old.table self.new.table) }
@@ -441,11 +438,11 @@ impl<'n, 'a> Judge<'n, 'a> {
             let j = self.case(case)?;
             found = Some(self.joined(found, j)?);
         }
-        found.ok_or(Untyped::Fault)
+        found.ok_or(Missing::Absent)
     }
 
     #[cycle(check)]
-    fn case(&mut self, case: &'a Case) -> Result<usize, Untyped>
+    fn case(&mut self, case: &'a Case) -> Result<usize, Missing>
         ensures value { GivesNumber self.new.table result (case_of self.old.place.defs self.old.place.tvars case.now self.old.place.scope) }
         ensures place { OnOk result (self.new.place ≡ self.old.place) }
         ensures grows { OnOk result (Grows self.old.table self.new.table) }
@@ -455,7 +452,7 @@ impl<'n, 'a> Judge<'n, 'a> {
     }
 
     #[cycle(check)]
-    fn are_tests(&mut self, tests: &'a [Expr]) -> Result<(), Untyped>
+    fn are_tests(&mut self, tests: &'a [Expr]) -> Result<(), Missing>
         ensures value { Gives result (are_tests (map (type_of self.old.place.defs self.old.place.tvars) tests.now) self.old.place.scope) }
         ensures place { OnOk result (self.new.place ≡ self.old.place) }
         ensures grows { OnOk result (Grows self.old.table self.new.table) }
@@ -467,10 +464,10 @@ impl<'n, 'a> Judge<'n, 'a> {
     }
 
     /// The type of the numbers of a table.
-    fn table(&self, x: &Name) -> Result<IntTy, Untyped>
+    fn table(&self, x: &Name) -> Result<IntTy, Missing>
         ensures { Gives result (table_named self.now.place.defs x.now) }
     {
-        self.index().names().table_named(x).ok_or(Untyped::Fault)
+        self.index().names().table_named(x).ok_or(Missing::Absent)
     }
 
     /// A buffer of so many elements of a type may be made.
@@ -490,7 +487,7 @@ impl<'n, 'a> Judge<'n, 'a> {
         self.is_unit(k) || self.is_flat(k)
     }
 
-    fn number(&mut self, i: IntTy, n: u64) -> Result<usize, Untyped>
+    fn number(&mut self, i: IntTy, n: u64) -> Result<usize, Missing>
         ensures value { GivesNumber self.new.table result (num_type i n) }
         ensures place { self.new.place ≡ self.old.place }
         ensures grows { Grows self.old.table self.new.table }
@@ -500,7 +497,7 @@ impl<'n, 'a> Judge<'n, 'a> {
     }
 
     /// The one type of the branches so far and of another.
-    fn joined(&self, found: Option<usize>, k: usize) -> Result<usize, Untyped>
+    fn joined(&self, found: Option<usize>, k: usize) -> Result<usize, Missing>
         ensures { (r : Option Ty) (a : Ty) → IsNumberOf self.now.table found r → IsErased self.now.table k a → GivesNumber self.now.table result (joined r a) }
     {
         match found {

@@ -39,7 +39,7 @@ fn is_among(vars: &[Name], x: &Name) -> bool
     ensures { result ≡ is_among vars.now x.now }
 {
     for v in vars {
-        if v.as_bytes() == x.as_bytes() {
+        if v.is(x) {
             return true;
         }
     }

@@ -13,10 +13,10 @@ use crate::applied::Applied;
 use crate::formed::are_arguments;
 use crate::index::Index;
 use crate::judge::Judge;
-use crate::untyped::{Untyped, demand};
+use crate::demands::demand;
 use krml_ast::Component;
 use krml_syntax::{Field, Ty};
-use krml_trace::Name;
+use krml_trace::{Missing, Name};
 
 /// Type arguments serve for type variables.
 fn serve(index: &Index<'_>, tvars: &[Name], vars: &[Name], args: &[Ty]) -> bool
@@ -30,7 +30,7 @@ fn place_in(fields: &[Field], y: &Name) -> Option<usize>
     ensures { result ≡ place_in fields.now y.now }
 {
     for (j, field) in fields.iter().enumerate() {
-        if field.name.as_bytes() == y.as_bytes() {
+        if field.name.is(y) {
             return Some(j);
         }
     }
@@ -39,13 +39,13 @@ fn place_in(fields: &[Field], y: &Name) -> Option<usize>
 
 impl<'n, 'a> Judge<'n, 'a> {
     /// A struct at type arguments.
-    pub fn make_at(&mut self, x: &'a Name, args: &'a [Ty]) -> Result<Applied, Untyped>
+    pub fn make_at(&mut self, x: &'a Name, args: &'a [Ty]) -> Result<Applied, Missing>
         ensures value { GivesApplied self.new.table self.old.place.defs result (make_at self.old.place.defs self.old.place.tvars x.now args.now) }
         ensures place { self.new.place ≡ self.old.place }
         ensures grows { Grows self.old.table self.new.table }
     {
         let Some(def) = self.index().names().struct_named(x) else {
-            return Err(Untyped::Fault);
+            return Err(Missing::Absent);
         };
         demand(serve(self.index(), self.tvars(), def.vars, args))?;
         let k = self.named(x, args)?;
@@ -57,13 +57,13 @@ impl<'n, 'a> Judge<'n, 'a> {
     }
 
     /// A constructor at the type arguments of its sum.
-    pub fn con_at(&mut self, x: &'a Name, args: &'a [Ty]) -> Result<Applied, Untyped>
+    pub fn con_at(&mut self, x: &'a Name, args: &'a [Ty]) -> Result<Applied, Missing>
         ensures value { GivesApplied self.new.table self.old.place.defs result (con_at self.old.place.defs self.old.place.tvars x.now args.now) }
         ensures place { self.new.place ≡ self.old.place }
         ensures grows { Grows self.old.table self.new.table }
     {
         let Some(def) = self.index().names().con_named(x) else {
-            return Err(Untyped::Fault);
+            return Err(Missing::Absent);
         };
         demand(serve(self.index(), self.tvars(), def.vars, args))?;
         let takes = self.named(x, args)?;
@@ -76,13 +76,13 @@ impl<'n, 'a> Judge<'n, 'a> {
     }
 
     /// A function at type arguments.
-    pub fn call_at(&mut self, x: &'a Name, args: &'a [Ty]) -> Result<Applied, Untyped>
+    pub fn call_at(&mut self, x: &'a Name, args: &'a [Ty]) -> Result<Applied, Missing>
         ensures value { GivesApplied self.new.table self.old.place.defs result (call_at self.old.place.defs self.old.place.tvars x.now args.now) }
         ensures place { self.new.place ≡ self.old.place }
         ensures grows { Grows self.old.table self.new.table }
     {
         let Some(def) = self.index().names().fun_named(x) else {
-            return Err(Untyped::Fault);
+            return Err(Missing::Absent);
         };
         demand(serve(self.index(), self.tvars(), def.vars, args))?;
         let takes = self.named(x, args)?;
@@ -95,55 +95,55 @@ impl<'n, 'a> Judge<'n, 'a> {
     }
 
     /// The type of a field of a value.
-    pub fn field_type(&mut self, y: &Name, k: usize) -> Result<usize, Untyped>
+    pub fn field_type(&mut self, y: &Name, k: usize) -> Result<usize, Missing>
         requires { IsKnown self.old.table k }
         ensures value { (a : Ty) → IsErased self.old.table k a → GivesNumber self.new.table result (field_type self.old.place.defs y.now a) }
         ensures place { self.new.place ≡ self.old.place }
         ensures grows { Grows self.old.table self.new.table }
     {
         let Some(x) = self.name_of(k) else {
-            return Err(Untyped::Fault);
+            return Err(Missing::Absent);
         };
         let Some(def) = self.index().names().struct_named(x) else {
-            return Err(Untyped::Fault);
+            return Err(Missing::Absent);
         };
         let Some(j) = place_in(def.fields, y) else {
-            return Err(Untyped::Fault);
+            return Err(Missing::Absent);
         };
         self.component(Component::Field, k, j)
     }
 
     /// The number at which the fields of the struct of a name are found, at the type arguments of a type.
-    pub fn make_parts(&self, x: &Name, k: usize) -> Result<usize, Untyped>
+    pub fn make_parts(&self, x: &Name, k: usize) -> Result<usize, Missing>
         ensures { (a : Ty) → IsErased self.now.table k a → GivesParts self.now.table self.now.place.defs Component.Field result (make_parts self.now.place.defs x.now a) }
     {
         if self.index().names().struct_named(x).is_none() {
-            return Err(Untyped::Fault);
+            return Err(Missing::Absent);
         }
         match self.name_of(k) {
-            Some(y) if y.as_bytes() == x.as_bytes() => Ok(k),
-            _ => Err(Untyped::Fault),
+            Some(y) if y.is(x) => Ok(k),
+            _ => Err(Missing::Absent),
         }
     }
 
     /// The number at which the arguments of a constructor are found, at the type arguments of a type.
-    pub fn con_parts(&mut self, x: &'a Name, k: usize) -> Result<usize, Untyped>
+    pub fn con_parts(&mut self, x: &'a Name, k: usize) -> Result<usize, Missing>
         requires { IsKnown self.old.table k }
         ensures value { (a : Ty) → IsErased self.old.table k a → GivesParts self.new.table self.old.place.defs Component.Argument result (con_parts self.old.place.defs x.now a) }
         ensures place { self.new.place ≡ self.old.place }
         ensures grows { Grows self.old.table self.new.table }
     {
         let Some(def) = self.index().names().con_named(x) else {
-            return Err(Untyped::Fault);
+            return Err(Missing::Absent);
         };
         match self.name_of(k) {
-            Some(y) if y.as_bytes() == def.sum.as_bytes() => self.renamed(k, x),
-            _ => Err(Untyped::Fault),
+            Some(y) if y.is(def.sum) => self.renamed(k, x),
+            _ => Err(Missing::Absent),
         }
     }
 
     /// The type of an argument of a constructor.
-    pub fn part_type(&mut self, x: &'a Name, j: u32, k: usize) -> Result<usize, Untyped>
+    pub fn part_type(&mut self, x: &'a Name, j: u32, k: usize) -> Result<usize, Missing>
         requires { IsKnown self.old.table k }
         ensures value { (a : Ty) → IsErased self.old.table k a → GivesNumber self.new.table result (part_type self.old.place.defs x.now j a) }
         ensures place { self.new.place ≡ self.old.place }
@@ -154,17 +154,17 @@ impl<'n, 'a> Judge<'n, 'a> {
     }
 
     /// The type of the test whether a value is of a constructor.
-    pub fn tag_type(&mut self, x: &Name, k: usize) -> Result<usize, Untyped>
+    pub fn tag_type(&mut self, x: &Name, k: usize) -> Result<usize, Missing>
         ensures value { (a : Ty) → IsErased self.old.table k a → GivesNumber self.new.table result (tag_type self.old.place.defs x.now a) }
         ensures place { self.new.place ≡ self.old.place }
         ensures grows { Grows self.old.table self.new.table }
     {
         let Some(def) = self.index().names().con_named(x) else {
-            return Err(Untyped::Fault);
+            return Err(Missing::Absent);
         };
         match self.name_of(k) {
-            Some(y) if y.as_bytes() == def.sum.as_bytes() => self.bool(),
-            _ => Err(Untyped::Fault),
+            Some(y) if y.is(def.sum) => self.bool(),
+            _ => Err(Missing::Absent),
         }
     }
 }

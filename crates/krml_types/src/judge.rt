@@ -14,11 +14,11 @@ ghost use Rattle.krml_types.specs.Scopes.{cut_scope, with_frame, is_framed, slot
 ghost use Rattle.krml_types.specs.Types.{is_flat};
 
 use crate::index::Index;
-use crate::untyped::{Untyped, demand};
+use crate::demands::demand;
 use krml_ast::{Component, Components};
 use krml_intern::{Scope, TypeTable};
 use krml_syntax::{IntTy, Slot, Ty};
-use krml_trace::{Name, NoMemory};
+use krml_trace::{Missing, Name, NoMemory};
 use std::alloc::Global;
 use std::marker::Model;
 use std::mem;
@@ -56,7 +56,7 @@ impl<'n, 'a> Model for Judge<'n, 'a> {
 }
 
 /// A number, where memory was there.
-fn given(k: Result<usize, NoMemory>) -> Result<usize, Untyped>
+fn given(k: Result<usize, NoMemory>) -> Result<usize, Missing>
     ensures { (t : Table) (a : Ty) → IfOk k (λ n. IsErased t n a) → GivesNumber t result (Some a) }
 {
     Ok(k?)
@@ -111,10 +111,10 @@ impl<'n, 'a> Judge<'n, 'a> {
     }
 
     /// The type of the newest variable of a name.
-    pub fn look(&self, x: &Name) -> Result<usize, Untyped>
+    pub fn look(&self, x: &Name) -> Result<usize, Missing>
         ensures { GivesNumber self.now.table result (look self.now.place.scope.vars x.now) }
     {
-        self.scope.look(x.as_bytes()).ok_or(Untyped::Fault)
+        self.scope.look(x.as_bytes()).ok_or(Missing::Absent)
     }
 
     /// One more variable, the newest, with the number of its type.
@@ -158,16 +158,16 @@ impl<'n, 'a> Judge<'n, 'a> {
     }
 
     /// The type of the elements of a slot.
-    pub fn slot_type(&mut self, k: u32) -> Result<usize, Untyped>
+    pub fn slot_type(&mut self, k: u32) -> Result<usize, Missing>
         ensures value { GivesNumber self.new.table result (slot_type self.old.place.scope.frame k) }
         ensures place { self.new.place ≡ self.old.place }
         ensures grows { Grows self.old.table self.new.table }
     {
         let Some(slots) = self.frame else {
-            return Err(Untyped::Fault);
+            return Err(Missing::Absent);
         };
         let Some(slot) = slots.get(k as usize) else {
-            return Err(Untyped::Fault);
+            return Err(Missing::Absent);
         };
         self.erased(&slot.ty)
     }
@@ -175,7 +175,7 @@ impl<'n, 'a> Judge<'n, 'a> {
     // ---- types
 
     /// The type `bool`.
-    pub fn bool(&mut self) -> Result<usize, Untyped>
+    pub fn bool(&mut self) -> Result<usize, Missing>
         ensures value { GivesNumber self.new.table result (Some t.Bool) }
         ensures place { self.new.place ≡ self.old.place }
         ensures grows { Grows self.old.table self.new.table }
@@ -185,7 +185,7 @@ impl<'n, 'a> Judge<'n, 'a> {
     }
 
     /// The type `unit`.
-    pub fn unit(&mut self) -> Result<usize, Untyped>
+    pub fn unit(&mut self) -> Result<usize, Missing>
         ensures value { GivesNumber self.new.table result (Some t.Unit) }
         ensures place { self.new.place ≡ self.old.place }
         ensures grows { Grows self.old.table self.new.table }
@@ -195,7 +195,7 @@ impl<'n, 'a> Judge<'n, 'a> {
     }
 
     /// The public integer type of a width.
-    pub fn public(&mut self, i: IntTy) -> Result<usize, Untyped>
+    pub fn public(&mut self, i: IntTy) -> Result<usize, Missing>
         ensures value { GivesNumber self.new.table result (Some (int_ty i)) }
         ensures place { self.new.place ≡ self.old.place }
         ensures grows { Grows self.old.table self.new.table }
@@ -205,7 +205,7 @@ impl<'n, 'a> Judge<'n, 'a> {
     }
 
     /// The buffers of a type.
-    pub fn buf(&mut self, k: usize) -> Result<usize, Untyped>
+    pub fn buf(&mut self, k: usize) -> Result<usize, Missing>
         requires { IsKnown self.old.table k }
         ensures value { (a : Ty) → IsErased self.old.table k a → GivesNumber self.new.table result (Some (t.Buf a)) }
         ensures place { self.new.place ≡ self.old.place }
@@ -216,7 +216,7 @@ impl<'n, 'a> Judge<'n, 'a> {
     }
 
     /// A type with its labels erased.
-    pub fn erased(&mut self, a: &'a Ty) -> Result<usize, Untyped>
+    pub fn erased(&mut self, a: &'a Ty) -> Result<usize, Missing>
         ensures value { GivesNumber self.new.table result (Some (erased a.now)) }
         ensures place { self.new.place ≡ self.old.place }
         ensures grows { Grows self.old.table self.new.table }
@@ -226,7 +226,7 @@ impl<'n, 'a> Judge<'n, 'a> {
     }
 
     /// The struct or sum of a name at types with their labels erased.
-    pub fn named(&mut self, x: &'a Name, types: &'a [Ty]) -> Result<usize, Untyped>
+    pub fn named(&mut self, x: &'a Name, types: &'a [Ty]) -> Result<usize, Missing>
         ensures value { GivesNumber self.new.table result (Some (t.Named x.now (map erased types.now))) }
         ensures place { self.new.place ≡ self.old.place }
         ensures grows { Grows self.old.table self.new.table }
@@ -236,7 +236,7 @@ impl<'n, 'a> Judge<'n, 'a> {
     }
 
     /// A struct or a sum under another name, at the same type arguments.
-    pub fn renamed(&mut self, k: usize, x: &'a Name) -> Result<usize, Untyped>
+    pub fn renamed(&mut self, k: usize, x: &'a Name) -> Result<usize, Missing>
         requires { IsAt self.old.table k }
         ensures value { (y : List ℕ) (args : List Ty) → IsErased self.old.table k (t.Named y args) → GivesNumber self.new.table result (Some (t.Named x.now args)) }
         ensures place { self.new.place ≡ self.old.place }
@@ -274,10 +274,10 @@ impl<'n, 'a> Judge<'n, 'a> {
     }
 
     /// The type of the elements of a buffer.
-    pub fn element(&self, k: usize) -> Result<usize, Untyped>
+    pub fn element(&self, k: usize) -> Result<usize, Missing>
         ensures { (a : Ty) → IsErased self.now.table k a → GivesNumber self.now.table result (element_of (out-Ty a)) }
     {
-        self.types.element(k).ok_or(Untyped::Fault)
+        self.types.element(k).ok_or(Missing::Absent)
     }
 
     /// The name of a struct or a sum.
@@ -300,7 +300,7 @@ impl<'n, 'a> Judge<'n, 'a> {
     }
 
     /// A component of the struct, constructor or function of a name at type arguments. It is computed once.
-    pub fn component(&mut self, kind: Component, k: usize, j: usize) -> Result<usize, Untyped>
+    pub fn component(&mut self, kind: Component, k: usize, j: usize) -> Result<usize, Missing>
         requires { IsAt self.old.table k }
         ensures value { (x : List ℕ) (args : List Ty) → IsErased self.old.table k (t.Named x args) → GivesNumber self.new.table result (part_at self.old.place.defs kind x args j) }
         ensures place { self.new.place ≡ self.old.place }
@@ -312,22 +312,22 @@ impl<'n, 'a> Judge<'n, 'a> {
         let n = self.computed(kind, k, j)?;
         match self.components.put(kind, k, j, n) {
             Ok(()) => Ok(n),
-            Err(_) => Err(Untyped::NoMemory),
+            Err(_) => Err(Missing::NoMemory),
         }
     }
 
     /// The same, computed.
-    fn computed(&mut self, kind: Component, k: usize, j: usize) -> Result<usize, Untyped>
+    fn computed(&mut self, kind: Component, k: usize, j: usize) -> Result<usize, Missing>
         requires { IsAt self.old.table k }
         ensures value { (x : List ℕ) (args : List Ty) → IsErased self.old.table k (t.Named x args) → GivesNumber self.new.table result (part_at self.old.place.defs kind x args j) }
         ensures place { self.new.place ≡ self.old.place }
         ensures grows { Grows self.old.table self.new.table }
     {
         let Some(x) = self.types.name_of(k) else {
-            return Err(Untyped::Fault);
+            return Err(Missing::Absent);
         };
         let Some((vars, ty)) = self.index.names().written(kind, x, j) else {
-            return Err(Untyped::Fault);
+            return Err(Missing::Absent);
         };
         let args = self.types.arguments(k)?;
         let k = self.types.erased_at(vars, args.as_slice(), ty);

@@ -4,6 +4,7 @@
 mod applied;
 mod check;
 mod definition;
+mod demands;
 mod expression;
 mod formed;
 mod holds;
@@ -15,7 +16,6 @@ mod part;
 mod pattern;
 mod refusal;
 mod typed_file;
-mod untyped;
 
 pub use check::check_types;
 pub use refusal::TypeRefusal;

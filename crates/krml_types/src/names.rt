@@ -44,7 +44,7 @@ fn is_fresh(names: &[Name], x: &Name) -> bool
     ensures { result ≡ is_fresh names.now x.now }
 {
     for name in names {
-        if x.as_bytes() == name.as_bytes() {
+        if x.is(name) {
             return false;
         }
     }
@@ -65,7 +65,7 @@ fn is_fresh_field(fields: &[Field], x: &Name) -> bool
     ensures { result ≡ is_fresh (names_of fields.now) x.now }
 {
     for field in fields {
-        if x.as_bytes() == field.name.as_bytes() {
+        if x.is(&field.name) {
             return false;
         }
     }
@@ -86,7 +86,7 @@ fn is_fresh_con(cons: &[Con], x: &Name) -> bool
     ensures { result ≡ is_fresh (cons_of cons.now) x.now }
 {
     for con in cons {
-        if x.as_bytes() == con.name.as_bytes() {
+        if x.is(&con.name) {
             return false;
         }
     }

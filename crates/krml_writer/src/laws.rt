@@ -1,4 +1,5 @@
 ghost use Rattle.std.specs.Prelude.{◌≡◌, ℕ, ◌≤◌, List, length, None};
+ghost use Rattle.krml_trace.specs.Limits.{max_text};
 ghost use Rattle.krml_forms.specs.Levels.{AllWithin};
 ghost use Rattle.krml_forms.specs.Text.{HasForms};
 ghost use Rattle.krml_syntax.specs.File.{SpellsFile};
@@ -16,7 +17,7 @@ pub fn written_again()
     ensures spelled { (forms : List Form) (file : SourceFile) → SpellsDefs forms file.defs → HasForms (text_of file) (forms_of file) × SpellsDefs (forms_of file) file.defs }
     ensures levels { (forms : List Form) (file : SourceFile) → SpellsDefs forms file.defs → (n : ℕ) → AllWithin n forms → AllWithin n (forms_of file) }
     ensures limits { (forms : List Form) (file : SourceFile) → SpellsDefs forms file.defs → first_excess forms file.defs ≡ None → first_excess (forms_of file) file.defs ≡ None }
-    ensures again { (text : List ℕ) (file : SourceFile) → SpellsFile text file → length (text_of file) ≤ 1048576 → SpellsFile (text_of file) file }
+    ensures again { (text : List ℕ) (file : SourceFile) → SpellsFile text file → length (text_of file) ≤ max_text → SpellsFile (text_of file) file }
 {
     written_forms_are_read();
 }

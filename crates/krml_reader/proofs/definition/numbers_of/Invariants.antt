@@ -1,5 +1,5 @@
 use Rattle.std.proofs.Common.{◌≡◌, drop}
-use Rattle.krml_reader.specs.Gives.{each_after, each_of}
+use Rattle.krml_reader.specs.Each.{each_after, each_of}
 use Rattle.krml_reader.specs.Words.{number_of_width}
 use Rattle.krml_reader.proofs.definition.numbers_of.Given as goal
 

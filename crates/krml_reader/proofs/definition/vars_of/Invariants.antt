@@ -1,5 +1,5 @@
 use Rattle.std.proofs.Common.{◌≡◌, drop}
-use Rattle.krml_reader.specs.Gives.{each_after}
+use Rattle.krml_reader.specs.Each.{each_after}
 use Rattle.krml_reader.specs.Words.{var_at}
 use Rattle.krml_reader.specs.Definition.{vars_of}
 use Rattle.krml_reader.proofs.definition.vars_of.Given as goal

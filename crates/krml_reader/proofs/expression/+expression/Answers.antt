@@ -1,6 +1,6 @@
 use Rattle.std.proofs.Common.{◌≡◌, ℕ, zero, suc, ◌-◌, ◌≤◌, List, ap, subst, arith}
 use Rattle.krml_forms.specs.declared.form.Form.{Form}
-use Rattle.krml_reader.specs.Gives.{Gives}
+use Rattle.krml_trace.specs.Gives.{Gives}
 use Rattle.krml_reader.specs.Expression.{expr_at, arm_by, arm_list_at}
 use Rattle.krml_reader.proofs.expression.+expression.Goals as goal
 

@@ -1,5 +1,5 @@
 use Rattle.std.proofs.Common.{◌≡◌, drop, ◌+◌, ◌*◌}
-use Rattle.krml_reader.specs.Gives.{each_after, each_of}
+use Rattle.krml_reader.specs.Each.{each_after, each_of}
 use Rattle.krml_reader.specs.Expression.{expr_at, arm_at, item_at}
 use Rattle.krml_reader.proofs.expression.+expression.Given as goal
 

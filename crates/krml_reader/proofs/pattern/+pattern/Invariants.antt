@@ -1,5 +1,5 @@
 use Rattle.std.proofs.Common.{◌≡◌, ◌+◌, ◌*◌, drop}
-use Rattle.krml_reader.specs.Gives.{each_after}
+use Rattle.krml_reader.specs.Each.{each_after}
 use Rattle.krml_reader.specs.Pattern.{pat_at, pats_of}
 use Rattle.krml_reader.proofs.pattern.+pattern.Given as goal
 

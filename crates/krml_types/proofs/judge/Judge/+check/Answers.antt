@@ -7,7 +7,7 @@ use Rattle.krml_intern.specs.Unlabelled.{IsErased}
 use Rattle.krml_intern.proofs.Erasing.{is_erased_still}
 use Rattle.krml_intern.proofs.Puts.{grows_on}
 use Rattle.krml_types.specs.Expressions.{apply_type, applied_step, each_has, items_from, type_of, item_of, arm_of, case_of, read_type, access_step, layer_of, may_alloc, is_result}
-use Rattle.krml_types.specs.Gives.{Gives}
+use Rattle.krml_trace.specs.Gives.{Gives}
 use Rattle.krml_types.specs.Judging.{Place, GivesNumber, AreApplied, in_scope}
 use Rattle.krml_types.specs.Instances.{make_at, con_at, call_at}
 use Rattle.krml_types.specs.Parts.{demand, is_value}

@@ -1,16 +1,8 @@
--- What a function that reads forms answers, and how it reads a list of them.
-use Rattle.std.specs.Prelude.{◌≡◌, ℕ, zero, suc, List, [], ◌∷◌, ◌++◌, Option, Some, None, Result, Ok, Err}
+-- How a list of forms is read.
+use Rattle.std.specs.Prelude.{ℕ, zero, suc, List, [], ◌∷◌, ◌++◌, Option, Some, None}
 use Rattle.krml_forms.specs.declared.form.Form.{Form}
 use Rattle.krml_forms.specs.declared.form.Form.TheOpen.{Form-F}
 use Rattle.krml_syntax.specs.Read.{◌>>=◌}
-use Rattle.krml_reader.specs.declared.no_tree.NoTree.{NoTree}
-use Rattle.krml_reader.specs.declared.no_tree.NoTree.TheVariants.{Unspelled, NoMemory}
-
--- What a function answered is what is read, unless memory ran out.
-abbrev pub Gives : {X : Type 0} → Result X NoTree → Option X → Type 0
-Gives (Ok x) read = read ≡ Some x
-Gives (Err Unspelled) read = read ≡ None
-Gives (Err NoMemory) read = Unit {0}
 
 -- what forms are read as, one by one, behind what those before them are
 unfoldable pub each_after : {X : Type 0} → (Form → Option X) → List X → List Form → Option (List X)
