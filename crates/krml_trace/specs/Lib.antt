@@ -6,7 +6,7 @@ pub mod Gives
 pub mod Levels
 pub mod Limits
 pub mod Loop
-pub mod Memory
+pub mod MemoryEnds
 pub mod Name
 pub mod Outside
 pub mod Run

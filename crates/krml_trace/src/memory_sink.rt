@@ -1,6 +1,6 @@
 ghost use Rattle.std.specs.Prelude.{◌≡◌, ◌≤◌, ◌↔◌, ◌++◌, [], take, IsErrOf, IfOk, Contains, Some};
 ghost use Rattle.krml_trace.specs.Outside.{Writes, counted};
-ghost use Rattle.krml_trace.specs.Memory.{taken};
+ghost use Rattle.krml_trace.specs.MemoryEnds.{taken};
 
 use crate::outside::{Sink, SinkFault};
 use sqlite_items::Items as Seq;
@@ -19,7 +19,7 @@ pub struct MemSink {
 
 impl Model for MemSink {
     ghost use Rattle.std.specs.Prelude.{◌≤◌};
-    ghost use Rattle.krml_trace.specs.Memory.{Writing};
+    ghost use Rattle.krml_trace.specs.MemoryEnds.{Writing};
 
     ghost Value = { Writing };
 

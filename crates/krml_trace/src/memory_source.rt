@@ -1,6 +1,6 @@
 ghost use Rattle.std.specs.Prelude.{◌≡◌, ◌≤◌, ◌↔◌, ◌++◌, [], length, take, drop, IsErr, IfOk, OnErr, Contains, Some};
 ghost use Rattle.krml_trace.specs.Outside.{Reads, counted};
-ghost use Rattle.krml_trace.specs.Memory.{given};
+ghost use Rattle.krml_trace.specs.MemoryEnds.{given};
 
 use crate::outside::{Failed, Source};
 use crate::unread::Unread;
@@ -20,7 +20,7 @@ pub struct MemSource {
 
 impl Model for MemSource {
     ghost use Rattle.std.specs.Prelude.{◌≤◌};
-    ghost use Rattle.krml_trace.specs.Memory.{Reading};
+    ghost use Rattle.krml_trace.specs.MemoryEnds.{Reading};
 
     ghost Value = { Reading };
 
