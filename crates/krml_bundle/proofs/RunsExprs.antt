@@ -7,7 +7,8 @@ use Rattle.krml_syntax.specs.declared.tree.Expr.{Expr, roll-Expr, map-Expr}
 use Rattle.krml_syntax.specs.declared.tree.Expr.TheOpen.{Expr-F, Item-F, Arm-F, Case-F}
 use Rattle.krml_syntax.specs.declared.tree.Expr.TheFolds.{fold-roll-Expr, fold-roll-Item, fold-roll-Arm, fold-roll-Case, ind-Expr, map-Item, map-Arm, map-Case}
 use Rattle.krml_syntax.specs.declared.tree.Def.{Def}
-use Rattle.krml_meaning.specs.State.{Sem, Numbered}
+use Rattle.krml_meaning.specs.State.{Sem}
+use Rattle.krml_meaning.specs.Numbered.{Numbered}
 use Rattle.krml_meaning.specs.Meaning as src
 use Rattle.krml_meaning.proofs.Evals as old
 use Rattle.krml_bundle.specs.Emitted.{emitted_fun, emitted_type, emitted_table, emitted_field}

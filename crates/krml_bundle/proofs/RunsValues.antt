@@ -7,6 +7,8 @@ use Rattle.krml_trace.specs.declared.why.Why.TheVariants.{Undefined}
 use Rattle.krml_trace.specs.Width.{same_width}
 use Rattle.krml_trace.specs.Run.{Goes, Ends, bind, with_some, check, spend, tick}
 use Rattle.krml_trace.specs.Loop.{Turn, Again, Over, turned, turns, loop}
+use Rattle.krml_trace.specs.Blocks.{update, close_from}
+use Rattle.krml_trace.proofs.Blocks.{map_update, map_close}
 use Rattle.krml_syntax.specs.declared.tree.IntTy.{IntTy}
 use Rattle.krml_syntax.specs.declared.tree.Ty.{Ty, out-Ty, roll-Ty, map-Ty}
 use Rattle.krml_syntax.specs.declared.tree.Ty.TheVariants as t
@@ -19,7 +21,7 @@ use Rattle.krml_meaning.specs.declared.value.Value.TheViews.{out-roll-Value}
 use Rattle.krml_meaning.specs.declared.value.Value.TheVariants as v
 use Rattle.krml_meaning.specs.declared.value.Value.TheOpen.{Value-F}
 use Rattle.krml_meaning.specs.declared.value.Value.TheFolds.{fold-Value, fold_out-Value}
-use Rattle.krml_meaning.specs.State.{Block, SourceState, SourceRan, Variables, Env, value_of, with_vars, closed, closed_slot, number_in, as_number, truth_in, as_truth, buffer_in, as_buffer, struct_in, as_struct, con_in, as_con, update, set_or_add, with_item, put, fresh, dead, close_from}
+use Rattle.krml_meaning.specs.State.{Block, SourceState, SourceRan, Variables, Env, value_of, with_vars, closed, closed_slot, number_in, as_number, truth_in, as_truth, buffer_in, as_buffer, struct_in, as_struct, con_in, as_con, set_or_add, with_item, put, fresh, dead}
 use Rattle.krml_syntax.proofs.Types.{at_bool, at_unit, at_int, at_buf, at_var, at_named}
 use Rattle.krml_bundle.specs.Emitted.{emitted_type, emitted_field}
 use Rattle.krml_bundle.specs.Bundled.{level_ty, ty_bundled, slot_bundled, event_bundled}
@@ -207,11 +209,6 @@ block_bundled b = record { elem = ty_bundled b.elem; len = b.len; live = b.live;
 abbrev pub state_bundled : SourceState → SourceState
 state_bundled s = record { ticks = s.ticks; memory = map block_bundled s.memory; events = map event_bundled s.events }
 
-map_update : {A A' : Type 0} (f : A → A') (n : ℕ) (a : A) (m : List A) → map f (update n a m) ≡ update n (f a) (map f m)
-map_update f n a [] = refl
-map_update f zero a (x ∷ m) = refl
-map_update f (suc n) a (x ∷ m) = ap (λ z. f x ∷ z) (map_update f n a m)
-
 map_set_or_add : {A A' : Type 0} (f : A → A') (n : ℕ) (a : A) (m : List A) → map f (set_or_add n a m) ≡ set_or_add n (f a) (map f m)
 map_set_or_add f n a [] = refl
 map_set_or_add f zero a (x ∷ m) = refl
@@ -226,10 +223,8 @@ pub fresh_bundled : (slots : List Slot) → map fresh (map slot_bundled slots) �
 fresh_bundled [] = refl
 fresh_bundled (s ∷ slots) = ap (λ z. fresh (slot_bundled s) ∷ z) (fresh_bundled slots)
 
-pub close_bundled : (n : ℕ) (m : List Block) → close_from n (map block_bundled m) ≡ map block_bundled (close_from n m)
-close_bundled n [] = refl
-close_bundled zero (b ∷ m) = ap (λ z. dead (block_bundled b) ∷ z) (close_bundled zero m)
-close_bundled (suc n) (b ∷ m) = ap (λ z. block_bundled b ∷ z) (close_bundled n m)
+pub close_bundled : (n : ℕ) (m : List Block) → close_from dead n (map block_bundled m) ≡ map block_bundled (close_from dead n m)
+close_bundled n m = sym (map_close dead dead block_bundled (λ b. refl) n m)
 
 -- ---- runs
 

@@ -14,7 +14,8 @@ use Rattle.krml_syntax.specs.Types.{erased, int_ty, u32}
 use Rattle.krml_ast.specs.IsType.{IsValue}
 use Rattle.krml_ast.specs.Typing.{Vars, Scope, with_vars, in_loop, at, fields_at, HasType, AllHaveType, ItemsLead}
 use Rattle.krml_ast.specs.WellTyped.{AreWellTyped}
-use Rattle.krml_meaning.specs.State.{Sem, each_from}
+use Rattle.krml_meaning.specs.State.{Sem}
+use Rattle.krml_meaning.specs.Numbered.{each_from}
 use Rattle.krml_meaning.specs.Meaning as src
 use Rattle.krml_meaning.proofs.Flat.{value_erased}
 use Rattle.krml_meaning.proofs.Files.{facts}

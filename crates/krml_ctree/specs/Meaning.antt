@@ -18,6 +18,7 @@ use Rattle.krml_trace.specs.Argument.{fits_width}
 use Rattle.krml_trace.specs.Run.{Goes, bind, leave, ends, with_some, check, tick, outcome_of, events_of}
 use Rattle.krml_trace.specs.Loop.{Turn, Again, Over, loop}
 use Rattle.krml_trace.specs.Levels.{within}
+use Rattle.krml_trace.specs.Blocks.{close_blocks}
 use Rattle.krml_ctree.specs.declared.event.CEvent.{CEvent}
 use Rattle.krml_ctree.specs.declared.event.CEvent.TheVariants as event
 use Rattle.krml_ctree.specs.declared.event.CSlot.{CSlot}
@@ -42,7 +43,7 @@ use Rattle.krml_ctree.specs.declared.tree.CStatement.TheFolds.{fold-CStatement}
 use Rattle.krml_ctree.specs.declared.tree.CFun.{CFun}
 use Rattle.krml_ctree.specs.declared.tree.CProgram.{CProgram}
 use Rattle.krml_ctree.specs.Text.{width_type}
-use Rattle.krml_ctree.specs.Parts.{CBlock, CState, CRan, Local, Locals, the_only, local_of, struct_named, function_named, table_named, is_known, has_type, as_number, as_number_of, as_pointer, as_struct, as_truth, set, close, put, close_from}
+use Rattle.krml_ctree.specs.Parts.{CBlock, CState, CRan, Local, Locals, the_only, local_of, struct_named, function_named, table_named, is_known, has_type, as_number, as_number_of, as_pointer, as_struct, as_truth, set, close, put, dead}
 
 -- ---- expressions
 
@@ -310,7 +311,7 @@ abbrev pub enter_block : List CArray → CState → CState
 enter_block arrays s = leave (event.Enter (map array_slot arrays)) (record s { memory = s.memory ++ map array_block arrays })
 
 abbrev pub leave_block : ℕ → CState → CState
-leave_block n s = leave event.Leave (record s { memory = close_from n s.memory })
+leave_block n s = leave event.Leave (close_blocks dead n s)
 
 -- { arrays, statements }
 abbrev pub block : CProgram → List CArray → List Step → Step

@@ -1,10 +1,11 @@
 -- Values, memory and variables of a run of C.
-use Rattle.std.specs.Prelude.{ℕ, zero, suc, ◌-◌, Bool, true, false, if◌then◌else◌, nat_lt, List, [], ◌∷◌, map, length, drop, filter, Option, Some, None, option_map, option_and_then, slice_get}
+use Rattle.std.specs.Prelude.{ℕ, suc, ◌-◌, Bool, true, false, if◌then◌else◌, nat_lt, List, [], ◌∷◌, map, length, drop, filter, Option, Some, None, option_map, option_and_then, slice_get}
 use Rattle.std.specs.Str.{bytes_eq}
 use Rattle.krml_trace.specs.declared.width.Width.{Width}
 use Rattle.krml_trace.specs.declared.width.Width.TheVariants.{W8, W32, W64}
 use Rattle.krml_trace.specs.Width.{same_width}
 use Rattle.krml_trace.specs.Run.{State, Ran}
+use Rattle.krml_trace.specs.Blocks.{update, put_block}
 use Rattle.krml_ctree.specs.declared.event.CEvent.{CEvent}
 use Rattle.krml_ctree.specs.declared.value.CValue.{CValue, out-CValue}
 use Rattle.krml_ctree.specs.declared.value.CValue.TheOpen.{CValue-F}
@@ -155,18 +156,10 @@ close before now = drop (length now - length before) now
 
 -- ---- memory
 
-abbrev pub update : {A : Type 0} → ℕ → A → List A → List A
-update n a [] = []
-update zero a (x ∷ xs) = a ∷ xs
-update (suc n) a (x ∷ xs) = x ∷ update n a xs
-
+-- element i of block n, which is b, takes a value
 abbrev pub put : ℕ → ℕ → CValue → CBlock → CState → CState
-put n i a b s = record s { memory = update n (record b { items = update i (Some a) b.items }) s.memory }
+put n i a b s = put_block n (record b { items = update i (Some a) b.items }) s
 
+-- a block whose braces are left
 abbrev pub dead : CBlock → CBlock
 dead b = record b { live = false }
-
-abbrev pub close_from : ℕ → List CBlock → List CBlock
-close_from n [] = []
-close_from zero (b ∷ m) = dead b ∷ close_from zero m
-close_from (suc n) (b ∷ m) = b ∷ close_from n m

@@ -17,13 +17,15 @@ use Rattle.krml_syntax.specs.Types.{erased, u32}
 use Rattle.krml_ast.specs.IsType.{HoldsBuffer, IsFlat}
 use Rattle.krml_meaning.specs.declared.value.Value.{Value}
 use Rattle.krml_meaning.specs.declared.value.Value.TheVariants as v
-use Rattle.krml_meaning.specs.State.{Block, SourceState, Env, Sem, with_vars, closed_slot, fresh, put, with_item, close_from}
+use Rattle.krml_trace.specs.Blocks.{close_from}
+use Rattle.krml_meaning.specs.State.{Block, SourceState, Env, Sem, with_vars, closed_slot, fresh, put, with_item, dead}
 use Rattle.krml_trace.specs.Loop.{loop}
 use Rattle.krml_meaning.specs.Meaning as src
 use Rattle.krml_meaning.specs.Shape.{Open, Usable, HasShape, BlockTyped, MemoryTyped, Extends}
 use Rattle.krml_trace.specs.After.{After}
 use Rattle.krml_meaning.specs.Sound.{Fine}
-use Rattle.krml_meaning.proofs.Lists.{same_some, get_in, get_update_same, set_more, each_get}
+use Rattle.krml_trace.proofs.Blocks.{get_in, get_update_same}
+use Rattle.krml_meaning.proofs.Lists.{same_some, set_more, each_get}
 use Rattle.krml_trace.proofs.After.{after_bind, after_some, after_check, after_if, Turned, loop_after}
 use Rattle.krml_meaning.proofs.Facts.{Facts}
 use Rattle.krml_meaning.proofs.Flat.{holds_erased}
@@ -151,7 +153,7 @@ module _ (defs : List Def) (facts : Facts defs) where
           (h.run (record env { base = length m }) begun (inside m env (on m begun.memory env p r)) (push_typed defs m (map (closed_slot env) slots) hm (flats m env r))) (λ x s2 h2.
           record {
             extends = close_extends m s2.memory (extends_then m begun.memory s2.memory p h2.extends);
-            shape = flat_shape defs facts s2.memory (close_from (length m) s2.memory) x a flat h2.shape;
+            shape = flat_shape defs facts s2.memory (close_from dead (length m) s2.memory) x a flat h2.shape;
             memory = close_typed defs (length m) s2.memory h2.memory;
           });
     }

@@ -36,7 +36,8 @@ use Rattle.krml_meaning.specs.Meaning.{Function, Passed, Start, with_value, with
 use Rattle.krml_meaning.specs.Shape.{number_ty, HasShape, AllHaveShape, BlockTyped, MemoryTyped, Extends}
 use Rattle.krml_trace.specs.After.{After}
 use Rattle.krml_meaning.specs.Sound.{Fine, CanRun, EndsWith, RunsWell, TypedFilesRun}
-use Rattle.krml_meaning.proofs.Lists.{same_some, no_some, same_answer, each_append, get_right, map_length}
+use Rattle.krml_trace.proofs.Blocks.{get_right}
+use Rattle.krml_meaning.proofs.Lists.{same_some, no_some, same_answer, each_append, map_length}
 use Rattle.krml_syntax.proofs.Types.{at_bool, at_unit, at_int, at_buf, erased_bool, erased_unit, erased_int, erased_buf}
 use Rattle.krml_meaning.proofs.Flat.{by_form, none_int}
 use Rattle.krml_meaning.proofs.Memory.{push_extends}

@@ -15,7 +15,8 @@ use Rattle.krml_syntax.specs.declared.tree.Expr.TheVariants as e
 use Rattle.krml_syntax.specs.declared.tree.Expr.TheFolds.{fold-Item, fold-Arm, fold-Case, fold_out-Expr, fold_out-Item, fold-roll-Arm, fold-roll-Case}
 use Rattle.krml_syntax.specs.declared.tree.Def.{Def}
 use Rattle.krml_meaning.specs.declared.value.Value.TheVariants as v
-use Rattle.krml_meaning.specs.State.{Sem, Numbered, none, one, two, three, many}
+use Rattle.krml_meaning.specs.State.{Sem}
+use Rattle.krml_meaning.specs.Numbered.{Numbered, none, one, two, three, many}
 use Rattle.krml_meaning.specs.Meaning as src
 
 module _ (defs : List Def) (calls : src.Calls) where

@@ -37,7 +37,8 @@ use Rattle.krml_ast.specs.declared.event.SourceEvent.{SourceEvent}
 use Rattle.krml_ast.specs.declared.event.SourceEvent.TheVariants as event
 use Rattle.krml_meaning.specs.declared.value.Value.{Value}
 use Rattle.krml_meaning.specs.declared.value.Value.TheVariants as v
-use Rattle.krml_meaning.specs.State.{Block, SourceState, Env, none}
+use Rattle.krml_meaning.specs.State.{Block, SourceState, Env}
+use Rattle.krml_meaning.specs.Numbered.{none}
 use Rattle.krml_meaning.specs.Meaning as src
 use Rattle.krml_meaning.proofs.Evals as evals
 use Rattle.krml_meaning.proofs.Taken.{takes_any, takes_bind, takes_bool, takes_num, takes_con, takes_make}

@@ -1,7 +1,7 @@
--- Lists: look-ups, updates, and what holds of each element.
+-- Lists: lengths, and what holds of each element.
 use Rattle.std.proofs.Common.{◌≡◌, ℕ, zero, suc, ◌+◌, ◌<◌, ◌≤◌, List, [], ◌∷◌, ◌++◌, map, length, Option, Some, None, slice_get, Contains, refl, sym, ap, ◌∙◌, subst, arith}
 use Rattle.std.specs.List.{AllByRecursion}
-use Rattle.krml_meaning.specs.State.{update, set_or_add}
+use Rattle.krml_meaning.specs.State.{set_or_add}
 
 abbrev or_else : {A : Type 0} → A → Option A → A
 or_else d None = d
@@ -16,39 +16,6 @@ no_some a e = cc
 -- the same look-up has one answer
 pub same_answer : {A : Type 0} (o : Option A) (a b : A) → o ≡ Some a → o ≡ Some b → a ≡ b
 same_answer o a b p q = same_some a b (sym p ∙ q)
-
--- ---- look-ups
-
-pub get_update_same : {A : Type 0} (m : List A) (n : ℕ) (a b : A) → slice_get m n ≡ Some b → slice_get (update n a m) n ≡ Some a
-get_update_same [] n a b h = absurd (no_some b h)
-get_update_same (x ∷ m) zero a b h = refl
-get_update_same (x ∷ m) (suc n) a b h = get_update_same m n a b h
-
-pub get_update_other : {A : Type 0} (m : List A) (n k : ℕ) (a : A) → (n ≡ k → ⊥) → slice_get (update n a m) k ≡ slice_get m k
-get_update_other [] n k a h = refl
-get_update_other (x ∷ m) zero zero a h = absurd (h refl)
-get_update_other (x ∷ m) zero (suc k) a h = refl
-get_update_other (x ∷ m) (suc n) zero a h = refl
-get_update_other (x ∷ m) (suc n) (suc k) a h = get_update_other m n k a (λ e. h (ap suc e))
-
-pub get_left : {A : Type 0} (m l : List A) (n : ℕ) (a : A) → slice_get m n ≡ Some a → slice_get (m ++ l) n ≡ Some a
-get_left [] l n a h = absurd (no_some a h)
-get_left (x ∷ m) l zero a h = h
-get_left (x ∷ m) l (suc n) a h = get_left m l n a h
-
-pub get_right : {A : Type 0} (m l : List A) (k : ℕ) → slice_get (m ++ l) (length m + k) ≡ slice_get l k
-get_right [] l k = let e : 0 + k ≡ k = omega arith in ap (slice_get l) e
-get_right (x ∷ m) l k = let e : suc (length m) + k ≡ suc (length m + k) = omega arith in ap (slice_get (x ∷ m ++ l)) e ∙ get_right m l k
-
-pub get_below : {A : Type 0} (m : List A) (n : ℕ) (a : A) → slice_get m n ≡ Some a → n < length m
-get_below [] n a h = absurd (no_some a h)
-get_below (x ∷ m) zero a h = omega arith
-get_below (x ∷ m) (suc n) a h = let ih = get_below m n a h in omega (arith, ih)
-
-pub get_in : {A : Type 0} (m : List A) (n : ℕ) → n < length m → (a : A) × (slice_get m n ≡ Some a)
-get_in [] n h = absurd (omega (arith, h))
-get_in (x ∷ m) zero h = (x, refl)
-get_in (x ∷ m) (suc n) h = get_in m n (omega (arith, h))
 
 -- ---- lengths
 
@@ -86,11 +53,6 @@ module _ {A : Type 0} (P : A → Type 0) where
   each_get [] n a h e = absurd (no_some a e)
   each_get (x ∷ m) zero a h e = subst P (same_some x a e) h.0
   each_get (x ∷ m) (suc n) a h e = each_get m n a h.1 e
-
-  pub each_update : (m : List A) (n : ℕ) (a : A) → AllByRecursion P m → P a → AllByRecursion P (update n a m)
-  each_update [] n a h p = tt
-  each_update (x ∷ m) zero a h p = (p, h.1)
-  each_update (x ∷ m) (suc n) a h p = (h.0, each_update m n a h.1 p)
 
   pub each_set : (m : List A) (n : ℕ) (a : A) → AllByRecursion P m → P a → AllByRecursion P (set_or_add n a m)
   each_set [] n a h p = (p, tt)

@@ -8,9 +8,11 @@ use Rattle.krml_syntax.specs.declared.tree.Def.{Def}
 use Rattle.krml_syntax.specs.Types.{erased}
 use Rattle.krml_ast.specs.IsType.{IsFlat}
 use Rattle.krml_meaning.specs.declared.value.Value.{Value}
-use Rattle.krml_meaning.specs.State.{Block, update, with_item, fresh, close_from}
+use Rattle.krml_trace.specs.Blocks.{update, close_from}
+use Rattle.krml_meaning.specs.State.{Block, with_item, fresh, dead}
 use Rattle.krml_meaning.specs.Shape.{Open, Usable, HasShape, BlockTyped, MemoryTyped, Extends}
-use Rattle.krml_meaning.proofs.Lists.{same_some, get_update_same, get_update_other, get_left, get_below, length_set, length_add, each_get, each_update, each_set, each_append}
+use Rattle.krml_trace.proofs.Blocks.{get_update_same, get_update_other, get_left, get_below, each_update, get_close_below, each_close}
+use Rattle.krml_meaning.proofs.Lists.{same_some, length_set, length_add, each_get, each_set, each_append}
 
 -- ---- a store
 
@@ -70,13 +72,7 @@ push_extends m l = record {
 
 -- ---- and its end
 
-close_below : (m : List Block) (n k : ℕ) → k < n → slice_get (close_from n m) k ≡ slice_get m k
-close_below [] n k h = refl
-close_below (b ∷ m) zero k h = absurd (omega (arith, h))
-close_below (b ∷ m) (suc n) zero h = refl
-close_below (b ∷ m) (suc n) (suc k) h = close_below m n k (omega (arith, h))
-
-pub close_extends : (m now : List Block) → Extends m now → Extends m (close_from (length m) now)
+pub close_extends : (m now : List Block) → Extends m now → Extends m (close_from dead (length m) now)
 close_extends m now p = record {
   opened = λ n a len o. on n a len (get_below m n o.block o.there) (p.opened n a len o);
   usable = λ n a len u.
@@ -84,8 +80,8 @@ close_extends m now p = record {
       record { is_open = on n a len (get_below m n u.is_open.block u.is_open.there) w.is_open; full = w.full };
 }
   where
-    on : (n : ℕ) (a : Ty) (len : ℕ) → n < length m → Open now n a len → Open (close_from (length m) now) n a len
-    on n a len lt o = record { block = o.block; there = close_below now (length m) n lt ∙ o.there; elem = o.elem; size = o.size; live = o.live }
+    on : (n : ℕ) (a : Ty) (len : ℕ) → n < length m → Open now n a len → Open (close_from dead (length m) now) n a len
+    on n a len lt o = record { block = o.block; there = get_close_below dead now (length m) n lt ∙ o.there; elem = o.elem; size = o.size; live = o.live }
 
 -- ---- typed memories
 
@@ -113,7 +109,5 @@ module _ (defs : List Def) where
   pub push_typed : (m : List Block) (slots : List Slot) → MemoryTyped defs m → AllByRecursion (λ s. IsFlat defs s.ty) slots → MemoryTyped defs (m ++ map fresh slots)
   push_typed m slots h f = each_append (BlockTyped defs) m (map fresh slots) h (fresh_typed slots f)
 
-  pub close_typed : (n : ℕ) (m : List Block) → MemoryTyped defs m → MemoryTyped defs (close_from n m)
-  close_typed n [] h = tt
-  close_typed zero (b ∷ m) h = (record { flat = h.0.flat; few = h.0.few; items = h.0.items }, close_typed zero m h.1)
-  close_typed (suc n) (b ∷ m) h = (h.0, close_typed n m h.1)
+  pub close_typed : (n : ℕ) (m : List Block) → MemoryTyped defs m → MemoryTyped defs (close_from dead n m)
+  close_typed = each_close dead (BlockTyped defs) (λ b h. record { flat = h.flat; few = h.few; items = h.items })

@@ -12,7 +12,8 @@ use Rattle.krml_ast.specs.IsType.{IsFlat, HoldsBuffer}
 use Rattle.krml_ast.specs.Typing.{Vars, Scope, in_loop, in_frame, Matches}
 use Rattle.krml_ast.specs.Typing as typing
 use Rattle.krml_meaning.specs.declared.value.Value.TheVariants as v
-use Rattle.krml_meaning.specs.State.{Block, Env, Sem, Numbered, none, one, two, three, many, each_from, with_vars, closed_slot}
+use Rattle.krml_meaning.specs.State.{Block, Env, Sem, with_vars, closed_slot}
+use Rattle.krml_meaning.specs.Numbered.{Numbered, none, one, two, three, many, each_from}
 use Rattle.krml_meaning.specs.Meaning as src
 use Rattle.krml_meaning.specs.Shape.{HasShape, Extends}
 use Rattle.krml_meaning.proofs.Lists.{each_append}

@@ -11,7 +11,8 @@ use Rattle.krml_ast.specs.Typing as typing
 use Rattle.krml_meaning.specs.declared.value.Value.{Value}
 use Rattle.krml_meaning.specs.State.{Block, Variables, Env, value_of, with_vars, closed_slot, fresh}
 use Rattle.krml_meaning.specs.Shape.{Open, HasShape, Extends}
-use Rattle.krml_meaning.proofs.Lists.{same_some, no_some, get_right}
+use Rattle.krml_trace.proofs.Blocks.{get_right}
+use Rattle.krml_meaning.proofs.Lists.{same_some, no_some}
 use Rattle.krml_meaning.proofs.Shapes.{shape_on}
 use Rattle.krml_syntax.proofs.Types.{erased_at}
 

@@ -18,7 +18,8 @@ use Rattle.krml_syntax.specs.Types.{erased, int_ty, u32, type_at}
 use Rattle.krml_ast.specs.IsType.{IsFlat, IsType, AreArguments}
 use Rattle.krml_ast.specs.Typing.{Scope, with_vars, in_loop, in_frame, fields_at, at, HasType, AllHaveType, ArmsHaveType, ItemsLead, CasesHaveType}
 use Rattle.krml_meaning.specs.declared.value.Value.TheVariants as v
-use Rattle.krml_meaning.specs.State.{Block, Env, Sem, Numbered, closed}
+use Rattle.krml_meaning.specs.State.{Block, Env, Sem, closed}
+use Rattle.krml_meaning.specs.Numbered.{Numbered}
 use Rattle.krml_meaning.specs.Meaning as src
 use Rattle.krml_meaning.specs.Shape.{HasShape}
 use Rattle.krml_meaning.proofs.Lists.{map_length, each_so, each_get, same_some, no_some}

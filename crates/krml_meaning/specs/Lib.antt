@@ -1,4 +1,5 @@
 pub mod Meaning
+pub mod Numbered
 pub mod Shape
 pub mod Sound
 pub mod State

@@ -18,6 +18,7 @@ use Rattle.krml_trace.specs.Width.{bits, same_width}
 use Rattle.krml_trace.specs.Run.{Goes, bind, leave, ends, with_some, check, tick, outcome_of, events_of}
 use Rattle.krml_trace.specs.Loop.{Turn, Again, Over, loop}
 use Rattle.krml_trace.specs.Levels.{within}
+use Rattle.krml_trace.specs.Blocks.{close_blocks}
 use Rattle.krml_syntax.specs.declared.tree.IntTy.{IntTy}
 use Rattle.krml_syntax.specs.declared.tree.Ty.{Ty, out-Ty}
 use Rattle.krml_syntax.specs.declared.tree.Ty.TheVariants as t
@@ -46,7 +47,8 @@ use Rattle.krml_meaning.specs.declared.value.Value.TheVariants as v
 use Rattle.krml_ast.specs.declared.run.SourceRun.{SourceRun}
 use Rattle.krml_ast.specs.Names.{Composite, Struct, Sum, type_named}
 use Rattle.krml_syntax.specs.Types.{type_at}
-use Rattle.krml_meaning.specs.State.{Block, SourceState, SourceRan, Variables, Env, value_of, with_vars, closed, closed_slot, Sem, as_number, as_truth, as_buffer, as_struct, as_con, Numbered, none, one, two, three, many, put, fresh, close_from}
+use Rattle.krml_meaning.specs.State.{Block, SourceState, SourceRan, Variables, Env, value_of, with_vars, closed, closed_slot, Sem, as_number, as_truth, as_buffer, as_struct, as_con, put, fresh, dead}
+use Rattle.krml_meaning.specs.Numbered.{Numbered, none, one, two, three, many}
 
 -- ---- numbers
 
@@ -264,7 +266,7 @@ push slots s = leave (event.Push slots) (record s { memory = s.memory ++ map fre
 
 -- the blocks from a number on end
 abbrev pub pop : ℕ → SourceState → SourceState
-pop n s = leave event.Pop (record s { memory = close_from n s.memory })
+pop n s = leave event.Pop (close_blocks dead n s)
 
 -- (frame a), with these slots
 abbrev pub frame : List Slot → Sem → Sem

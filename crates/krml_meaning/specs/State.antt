@@ -1,11 +1,11 @@
 -- Values, memory and scopes of a run of the source, and the steps that runs are made of.
-use Rattle.std.specs.Prelude.{ℕ, zero, suc, ◌+◌, Bool, true, false, if◌then◌else◌, List, [], ◌∷◌, ◌++◌, length, Option, Some, None}
-use Rattle.std.specs.List.{flat_map}
+use Rattle.std.specs.Prelude.{ℕ, zero, suc, Bool, true, false, if◌then◌else◌, List, [], ◌∷◌, ◌++◌, Option, Some, None}
 use Rattle.std.specs.Str.{bytes_eq}
 use Rattle.krml_trace.specs.declared.width.Width.{Width}
 use Rattle.krml_trace.specs.declared.why.Why.TheVariants.{Undefined}
 use Rattle.krml_trace.specs.Width.{same_width}
 use Rattle.krml_trace.specs.Run.{State, Ran, ends, check}
+use Rattle.krml_trace.specs.Blocks.{put_block}
 use Rattle.krml_syntax.specs.declared.tree.Ty.{Ty}
 use Rattle.krml_syntax.specs.declared.tree.Slot.{Slot}
 use Rattle.krml_ast.specs.declared.event.SourceEvent.{SourceEvent}
@@ -96,41 +96,7 @@ con_in _ s next = ends Undefined s
 abbrev pub as_con : {A : Type 0} → Value → SourceState → (ℕ → List Value → SourceRan A) → SourceRan A
 as_con x s next = con_in (out-Value x) s next
 
--- ---- what stands in textual order
-
--- The `alloc` forms of something have slots of the frame around it, in textual order. What it means depends on the number
--- of the first of them.
-pub record Numbered (A : Type 0) : Type 0 where
-  pub slots : List Slot
-  pub from : ℕ → A
-
--- no part
-abbrev pub none : {A : Type 0} → A → Numbered A
-none a = record { slots = []; from = λ k. a }
-
-abbrev pub one : {A B : Type 0} → (A → B) → Numbered A → Numbered B
-one f a = record { slots = a.slots; from = λ k. f (a.from k) }
-
--- two parts, the first of which stands before the second
-abbrev pub two : {A B C : Type 0} → (A → B → C) → Numbered A → Numbered B → Numbered C
-two f a b = record { slots = a.slots ++ b.slots; from = λ k. f (a.from k) (b.from (k + length a.slots)) }
-
-abbrev pub three : {A B C D : Type 0} → (A → B → C → D) → Numbered A → Numbered B → Numbered C → Numbered D
-three f a b c = two (λ g x. g x) (two f a b) c
-
-abbrev pub each_from : {A : Type 0} → List (Numbered A) → ℕ → List A
-each_from [] k = []
-each_from (a ∷ parts) k = a.from k ∷ each_from parts (k + length a.slots)
-
-abbrev pub many : {A B : Type 0} → (List A → B) → List (Numbered A) → Numbered B
-many f parts = record { slots = flat_map (λ a. a.slots) parts; from = λ k. f (each_from parts k) }
-
 -- ---- memory
-
-abbrev pub update : {A : Type 0} → ℕ → A → List A → List A
-update n a [] = []
-update zero a (x ∷ xs) = a ∷ xs
-update (suc n) a (x ∷ xs) = x ∷ update n a xs
 
 -- the n-th, or one more at the end
 abbrev pub set_or_add : {A : Type 0} → ℕ → A → List A → List A
@@ -144,16 +110,11 @@ with_item i a b = record b { items = set_or_add i a b.items }
 
 -- element i of block n, which is b, takes a value
 abbrev pub put : ℕ → ℕ → Value → Block → SourceState → SourceState
-put n i a b s = record s { memory = update n (with_item i a b) s.memory }
+put n i a b s = put_block n (with_item i a b) s
 
 abbrev pub fresh : Slot → Block
 fresh slot = record { elem = slot.ty; len = slot.len; live = true; items = [] }
 
+-- a block whose frame is left
 abbrev pub dead : Block → Block
 dead b = record b { live = false }
-
--- the blocks from a number on end
-abbrev pub close_from : ℕ → List Block → List Block
-close_from n [] = []
-close_from zero (b ∷ m) = dead b ∷ close_from zero m
-close_from (suc n) (b ∷ m) = b ∷ close_from n m

@@ -1,5 +1,6 @@
 pub mod After
 pub mod Bind
+pub mod Blocks
 pub mod Follows
 pub mod Levels
 pub mod Simulates

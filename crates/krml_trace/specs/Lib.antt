@@ -1,5 +1,6 @@
 pub mod After
 pub mod Argument
+pub mod Blocks
 pub mod Byte
 pub mod Follows
 pub mod Gives
