@@ -34,6 +34,7 @@ use Rattle.krml_ctree.specs.Parts.{Locals, CState, CRan}
 use Rattle.krml_ctree.specs.Parts as parts
 use Rattle.krml_ctree.specs.Meaning as tgt
 use Rattle.krml_ctree.specs.Meaning.{blank_local}
+use Rattle.krml_ctree.proofs.Forms as forms
 use Rattle.krml_cstar.specs.Built.{AreBuilt}
 use Rattle.krml_cstar.specs.Translation as code
 use Rattle.krml_cstar.specs.Translation.{Comp, ctype, plain, is_unit, gives, does, nothing, params_from, cvars, fun_code}
@@ -45,7 +46,6 @@ use Rattle.krml_cstar.proofs.TypesInC.{ctype_int}
 use Rattle.krml_cstar.proofs.PartTypes.{number_part, known_width, type_part}
 use Rattle.krml_cstar.proofs.VariableNames.{number_of, number-plain}
 use Rattle.krml_cstar.proofs.LocalsInC.{Keeps, Below, below_more, keeps_all, keeps_then, keeps_new, new_named, only_value}
-use Rattle.krml_cstar.proofs.Steps as steps
 use Rattle.krml_cstar.proofs.Fits.{IsPart, param_types, In, Gave, CallsFit, Good, Fits}
 use Rattle.krml_cstar.proofs.Forms.{var_holds, unit_clash, number_value, sim_number, exec, made, part_then, on_in}
 use Rattle.krml_cstar.proofs.Structs.{FitsAll, all_then, types_here}
@@ -109,7 +109,7 @@ module _ (defs : List Def) (typed : AreWellTyped defs) (built : AreBuilt defs) (
         let z : Value = v.Num table.ty.width e in
         let image_z : image_at defs z (int_ty i) ≡ cv.Num table.ty.width e = image_num defs table.ty.width e (int_ty i) in
         let l = made defs p calls d (cv.Num table.ty.width e) in
-        rw (steps.tab_is p calls d x o.value, known, index, number, lookups.table x table f.is, there, has)
+        rw (forms.tab_is p calls d x o.value, known, index, number, lookups.table x table f.is, there, has)
         (goes (the_image defs) Q z (l ∷ late) (leave (event.Tab table.place j) s1)
         (subst (λ u. Good defs p calls n now (c.Var (plain m)) (m + 1) (int_ty i) z (made defs p calls d u ∷ late)) image_z
         (new_good n m now late (int_ty i) z (ctype (t.Int i)) g small_m k.good.keeps k.good.below)))))));
@@ -184,7 +184,7 @@ module _ (defs : List Def) (typed : AreWellTyped defs) (built : AreBuilt defs) (
           (λ xs s1. tick s1 (λ s2. source (record { name = x; types = []; values = xs }) s2)) (λ xs late s1 k.
           let ge : m ≤ number_of (plain m) = let nr = number-plain m small_m in omega (arith, nr) in
           let gives_one : tgt.gives_as true (if is_unit f.result then None else Some (ctype f.result)) ≡ true = rw nu refl in
-          rw (steps.call_is p calls d x os.values, result_part.known, there, k.good.holds (blank_local d ∷ late) (keeps_new m (blank_local d) late ge), fits s1.memory xs k.fine.shapes, gives_one)
+          rw (forms.call_is p calls d x os.values, result_part.known, there, k.good.holds (blank_local d ∷ late) (keeps_new m (blank_local d) late ge), fits s1.memory xs k.fine.shapes, gives_one)
           (sim_end (the_image defs) Q _ _ (sim_ticked Q s1 _ _ (λ j.
           let s2 : SourceState = record s1 { ticks = j } in
           sim_more_after (the_image defs) (Fine defs s1.memory f.result) (Gave defs f.result) Q _ _ _ (ran_after xs s2 k.fine.shapes k.fine.memory)
@@ -210,7 +210,7 @@ module _ (defs : List Def) (typed : AreWellTyped defs) (built : AreBuilt defs) (
           all_then defs p calls vars (param_types f.params) evs cos hs env names n now s small here Q (st.Run x os.values ∷ [])
           (λ xs s1. tick s1 (λ s2. source (record { name = x; types = []; values = xs }) s2)) (λ xs late s1 k.
           let gives_none : tgt.gives_as false (if is_unit f.result then None else Some (ctype f.result)) ≡ true = rw isu refl in
-          rw (steps.run_is p calls x os.values, there, k.good.holds late (keeps_all m late), fits s1.memory xs k.fine.shapes, gives_none)
+          rw (forms.run_is p calls x os.values, there, k.good.holds late (keeps_all m late), fits s1.memory xs k.fine.shapes, gives_none)
           (sim_end (the_image defs) Q _ _ (sim_ticked Q s1 _ _ (λ j.
           let s2 : SourceState = record s1 { ticks = j } in
           sim_more_after (the_image defs) (Fine defs s1.memory f.result) (Gave defs f.result) Q _ _ _ (ran_after xs s2 k.fine.shapes k.fine.memory)

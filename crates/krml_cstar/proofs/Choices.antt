@@ -28,6 +28,7 @@ use Rattle.krml_ctree.specs.Parts.{Locals, CState, CRan, set, close}
 use Rattle.krml_ctree.specs.Parts as parts
 use Rattle.krml_ctree.specs.Meaning as tgt
 use Rattle.krml_ctree.specs.Meaning.{blank_local}
+use Rattle.krml_ctree.proofs.Forms as forms
 use Rattle.krml_cstar.specs.Built.{AreBuilt}
 use Rattle.krml_cstar.specs.Translation as code
 use Rattle.krml_cstar.specs.Translation.{Names, Comp, ctype, plain, is_unit, nothing}
@@ -35,7 +36,6 @@ use Rattle.krml_cstar.proofs.Images.{image_at, the_image, state_image, Sim}
 use Rattle.krml_cstar.proofs.Typed.{image_typed}
 use Rattle.krml_cstar.proofs.VariableNames.{number_of, number-plain}
 use Rattle.krml_cstar.proofs.LocalsInC.{all_named, Keeps, Below, below_more, keeps_all, keeps_named, keeps_then, keeps_new, keeps_close, below_close, new_named, only_value, branch_keeps, branch_below, branch_named}
-use Rattle.krml_cstar.proofs.Steps as steps
 use Rattle.krml_cstar.proofs.Fits.{In, Stands, Good, Fits}
 use Rattle.krml_cstar.proofs.Forms.{holds_now, var_holds, unit_clash, bool_value, stands_on, sim_truth, exec, blank_then, set_then, part_then, part_more, on_in}
 
@@ -165,7 +165,7 @@ module _ (defs : List Def) (built : AreBuilt defs) (p : CProgram) (calls : tgt.C
           let known : parts.is_known p d.ty ≡ true = ap (parts.is_known p) same ∙ h'.part.known in
           let on : (j : ℕ) (b : Bool) → r + 1 ≤ j → Stands defs vars names j late2 env (leave (event.If b) s1) = λ j b le.
           stands_on defs vars names r j late late2 env s1 (leave (event.If b) s1) k.stands (omega (arith, le)) new (below_more (r + 1) j late2 le be) (extends_same s1.memory) k.fine.memory in
-          rw (blank_then defs p calls d (st.Chain (code.arm o.value (code.into r o') ∷ []) (code.into r o'') ∷ []) late s1 known, steps.chain_is p calls o.value (code.into r o') (code.into r o''))
+          rw (blank_then defs p calls d (st.Chain (code.arm o.value (code.into r o') ∷ []) (code.into r o'') ∷ []) late s1 known, forms.if_is p calls o.value (code.into r o') (code.into r o''))
           (sim_end (the_image defs) Q _ _ (tested defs Q p s1.memory x s1 o.value late2 _
           (λ b s. if b then tgt.braces (steps_of (code.into r o')) late2 s else tgt.braces (steps_of (code.into r o'')) late2 s) k.fine.shape holds (λ b.
           taken Q (ev' env) (ev'' env) (tgt.braces (steps_of (code.into r o')) late2) (tgt.braces (steps_of (code.into r o'')) late2) s1 b
@@ -198,7 +198,7 @@ module _ (defs : List Def) (built : AreBuilt defs) (p : CProgram) (calls : tgt.C
           (λ x s1. as_truth x s1 (λ b. if b then ev' env (leave (event.If true) s1) else ev'' env (leave (event.If false) s1))) (λ x late s1 k.
           let on : (j : ℕ) (b : Bool) → r ≤ j → Stands defs vars names j late env (leave (event.If b) s1) = λ j b le.
           stands_on defs vars names r j late late env s1 (leave (event.If b) s1) k.stands le (keeps_all r late) (below_more r j late le k.good.below) (extends_same s1.memory) k.fine.memory in
-          rw (steps.chain_is p calls o.value o'.code o''.code)
+          rw (forms.if_is p calls o.value o'.code o''.code)
           (sim_end (the_image defs) Q _ _ (tested defs Q p s1.memory x s1 o.value late _
           (λ b s. if b then tgt.braces (steps_of o'.code) late s else tgt.braces (steps_of o''.code) late s) k.fine.shape (holds_now p r o.value late _ (k.good.holds bool_value)) (λ b.
           taken Q (ev' env) (ev'' env) (tgt.braces (steps_of o'.code) late) (tgt.braces (steps_of o''.code) late) s1 b

@@ -34,13 +34,13 @@ use Rattle.krml_ctree.specs.declared.tree.CStatement.TheVariants as st
 use Rattle.krml_ctree.specs.declared.tree.CProgram.{CProgram}
 use Rattle.krml_ctree.specs.Parts.{Local, Locals, CState, CRan, is_known, has_type, the_only, local_of, set}
 use Rattle.krml_ctree.specs.Meaning as tgt
+use Rattle.krml_ctree.proofs.Forms as forms
 use Rattle.krml_cstar.specs.Translation as code
 use Rattle.krml_cstar.specs.Translation.{Known, Names, Comp, is_unit, gives, does}
 use Rattle.krml_cstar.proofs.Images.{level_image, image_at, the_image, state_image, Sim}
 use Rattle.krml_cstar.proofs.Part.{erased_built, type_at_built}
 use Rattle.krml_cstar.proofs.VariableNames.{number_of}
 use Rattle.krml_cstar.proofs.LocalsInC.{all_named, Keeps, Below, keeps_all, keeps_then, keeps_value}
-use Rattle.krml_cstar.proofs.Steps as steps
 use Rattle.krml_cstar.proofs.PartTypes.{unit_part}
 use Rattle.krml_cstar.proofs.Fits.{IsPart, AreParts, Named, Holds, no_vars, In, Scoped, Stands, Good, Fits}
 
@@ -54,7 +54,7 @@ holds_now p n e a u h = h.later a (keeps_all n a)
 
 -- a variable below n holds its value
 pub var_holds : (p : CProgram) (n : ℕ) (y : List ℕ) (now : Locals) (u : CValue) → number_of y < n → tgt.var y [] now ≡ Some u → Holds p n (c.Var y) now u
-var_holds p n y now u lt e = record { later = λ late q. ap (λ (f : tgt.CSem). f [] late) (steps.var_is p y) ∙ keeps_value n now late y u q lt e }
+var_holds p n y now u lt e = record { later = λ late q. forms.var_is p y [] late ∙ keeps_value n now late y u q lt e }
 
 -- ---- values that are not unit
 
@@ -141,13 +141,13 @@ module _ (defs : List Def) where
     pub in_turn : {A A' : Type 0} (P : A → SourceState → Type 0) (R : A → Locals → Type 0) (Q : A' → Locals → Type 0) (a b : List CStatement) (now : Locals) (t : CState)
         (r : SourceRan A) (go : A → SourceState → SourceRan A') → After P r → Sim defs R r (exec a now t)
         → ((x : A) (now : Locals) (s : SourceState) → P x s → R x now → Sim defs Q (go x s) (exec b now (state_image defs s))) → Sim defs Q (bind r go) (exec (a ++ b) now t)
-    in_turn P R Q a b now t r go h k f = rw (steps.exec_append p calls a b now t) (sim_bind_after (the_image defs) P R Q r (exec a now t) go (λ now s. exec b now s) h k f)
+    in_turn P R Q a b now t r go h k f = rw (forms.exec_append p calls a b now t) (sim_bind_after (the_image defs) P R Q r (exec a now t) go (λ now s. exec b now s) h k f)
 
     -- the first does all that the source does
     pub and_then : {A : Type 0} (P : A → SourceState → Type 0) (R Q : A → Locals → Type 0) (a b : List CStatement) (now : Locals) (t : CState) (r : SourceRan A)
         → After P r → Sim defs R r (exec a now t)
         → ((x : A) (now : Locals) (s : SourceState) → P x s → R x now → Sim defs Q (Goes x s) (exec b now (state_image defs s))) → Sim defs Q r (exec (a ++ b) now t)
-    and_then P R Q a b now t r h k f = rw (steps.exec_append p calls a b now t) (sim_more_after (the_image defs) P R Q r (exec a now t) (λ now s. exec b now s) h k f)
+    and_then P R Q a b now t r h k f = rw (forms.exec_append p calls a b now t) (sim_more_after (the_image defs) P R Q r (exec a now t) (λ now s. exec b now s) h k f)
 
     -- ---- a declaration
 
@@ -157,19 +157,19 @@ module _ (defs : List Def) where
 
     pub decl_then : (x : CVar) (e : CExpr) (u : CValue) (rest : List CStatement) (now : Locals) (s : SourceState) → is_known p x.ty ≡ true
         → tgt.value_of p e [] (tgt.blank_local x ∷ now) ≡ Some u → has_type [] u x.ty ≡ true → exec (st.Decl x e ∷ rest) now (state_image defs s) ≡ exec rest (made x u ∷ now) (state_image defs s)
-    decl_then x e u rest now s known is has = rw (steps.decl_is p calls x e, known, is, has) refl
+    decl_then x e u rest now s known is has = rw (forms.decl_is p calls x e, known, is, has) refl
 
     -- a variable without a value
     pub blank_then : (x : CVar) (rest : List CStatement) (now : Locals) (s : SourceState) → is_known p x.ty ≡ true
         → exec (st.Blank x ∷ rest) now (state_image defs s) ≡ exec rest (tgt.blank_local x ∷ now) (state_image defs s)
-    blank_then x rest now s known = rw (steps.blank_is p calls x, known) refl
+    blank_then x rest now s known = rw (forms.blank_is p calls x, known) refl
 
     -- a variable that takes another value
     pub set_then : (y : List ℕ) (e : CExpr) (u : CValue) (l : Local) (rest : List CStatement) (now : Locals) (s : SourceState) → tgt.value_of p e [] now ≡ Some u
         → all_named y now ≡ l ∷ [] → l.array ≡ false → has_type [] u l.ty ≡ true → exec (st.Set y e ∷ rest) now (state_image defs s) ≡ exec rest (set y u now) (state_image defs s)
     set_then y e u l rest now s is there no_array has =
         let here : local_of now y ≡ Some l = ap the_only there in
-        rw (steps.set_is p calls y e, is, here, no_array, has) refl
+        rw (forms.set_is p calls y e, is, here, no_array, has) refl
 
     -- ---- an expression and what follows
 

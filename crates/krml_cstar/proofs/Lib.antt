@@ -25,7 +25,6 @@ pub mod PartTypes
 pub mod Runs
 pub mod Scopes
 pub mod Simulation
-pub mod Steps
 pub mod Structs
 pub mod Typed
 pub mod TypesInC

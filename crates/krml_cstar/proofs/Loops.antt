@@ -40,6 +40,7 @@ use Rattle.krml_ctree.specs.declared.tree.CProgram.{CProgram}
 use Rattle.krml_ctree.specs.Parts.{Local, Locals, set, close}
 use Rattle.krml_ctree.specs.Parts as parts
 use Rattle.krml_ctree.specs.Meaning as tgt
+use Rattle.krml_ctree.proofs.Forms as forms
 use Rattle.krml_cstar.specs.Built.{AreBuilt}
 use Rattle.krml_cstar.specs.Translation as code
 use Rattle.krml_cstar.specs.Translation.{Known, Names, Comp, does, nothing, plain, named}
@@ -49,7 +50,6 @@ use Rattle.krml_cstar.proofs.PartTypes.{unit_part, number_part, known_width}
 use Rattle.krml_cstar.proofs.Values.{literal_value, arithmetic_value, compared_value}
 use Rattle.krml_cstar.proofs.VariableNames.{number_of, number-plain, number-named}
 use Rattle.krml_cstar.proofs.LocalsInC.{all_named, Keeps, Below, below_more, keeps_named, keeps_all, keeps_then, keeps_new, keeps_close, below_close, new_named, only_value, branch_keeps, branch_below, branch_named, branch_other, branch_again}
-use Rattle.krml_cstar.proofs.Steps as steps
 use Rattle.krml_cstar.proofs.Fits.{IsPart, In, Stands, Good, Fits}
 use Rattle.krml_cstar.proofs.Forms.{holds_now, unit_clash, unit_is, bool_value, stands_on, exec, made, decl_then, set_then, part_more, on_in}
 use Rattle.krml_cstar.proofs.Blocks.{ready_more, stands_known}
@@ -160,7 +160,7 @@ module _ (defs : List Def) (p : CProgram) (calls : tgt.Calls) where
     sim = λ env names n now s small here.
         let o = co.run names n in
         let o' = co'.run names o.next in
-        rw (steps.loop_is p calls o.code o.value o'.code)
+        rw (forms.loop_is p calls o.code o.value o'.code)
         (sim_end (the_image defs) (while_good vars ev ev' co co' h h' env names n now s small here) _ _
         (loop_sim (the_image defs) (Between vars ev ev' co co' h h' env names n now s small here) (while_good vars ev ev' co co' h h' env names n now s small here)
         (λ (u : Unit {0}). Kept defs s.memory) (src.while_turn ev ev' env)
@@ -266,7 +266,7 @@ module _ (defs : List Def) (typed : AreWellTyped defs) (built : AreBuilt defs) (
         part_more defs p calls ((x, u32) ∷ vars) t.Unit ev'' co'' h'' (with_vars ((x, v.Num W32 j) ∷ []) env) (known i ∷ names) (i + 2) there s1 small (stands_inside j there s1 k a)
         (Stepped j there) (code.stepped y ∷ []) (λ z inside s2 k2.
         let count : all_named y inside ≡ holding (counter i) j ∷ [] = keeps_named (i + 2) there inside k2.good.keeps y lt ∙ a.count in
-        let value : tgt.value_of p (c.Var y) [] inside ≡ Some (cv.Num W32 j) = ap (λ (f : tgt.CSem). f [] inside) (steps.var_is p y) ∙ only_value y inside (holding (counter i) j) (cv.Num W32 j) count refl in
+        let value : tgt.value_of p (c.Var y) [] inside ≡ Some (cv.Num W32 j) = forms.var_is p y [] inside ∙ only_value y inside (holding (counter i) j) (cv.Num W32 j) count refl in
         rw (set_then defs p calls y (c.Bin cop.Add (c.Var y) (c.Lit W32 1)) (cv.Num W32 (suc j)) (holding (counter i) j) [] inside s2 (next_value j inside fits value) count refl (has_number [] W32 (suc j)))
         (goes (the_image defs) (Stepped j there) z (set y (cv.Num W32 (suc j)) inside) s2 (record { inside = inside; keeps = k2.good.keeps; is = refl })))
 
@@ -276,8 +276,8 @@ module _ (defs : List Def) (typed : AreWellTyped defs) (built : AreBuilt defs) (
     for_each j there s1 k a =
         let y = named i x in
         let z = plain (i + 1) in
-        let value_y : tgt.value_of p (c.Var y) [] there ≡ Some (cv.Num W32 j) = ap (λ (f : tgt.CSem). f [] there) (steps.var_is p y) ∙ only_value y there (holding (counter i) j) (cv.Num W32 j) a.count refl in
-        let value_z : tgt.value_of p (c.Var z) [] there ≡ Some (cv.Num W32 end) = ap (λ (f : tgt.CSem). f [] there) (steps.var_is p z) ∙ only_value z there (holding (bound i) end) (cv.Num W32 end) a.most refl in
+        let value_y : tgt.value_of p (c.Var y) [] there ≡ Some (cv.Num W32 j) = forms.var_is p y [] there ∙ only_value y there (holding (counter i) j) (cv.Num W32 j) a.count refl in
+        let value_z : tgt.value_of p (c.Var z) [] there ≡ Some (cv.Num W32 end) = forms.var_is p z [] there ∙ only_value z there (holding (bound i) end) (cv.Num W32 end) a.most refl in
         let tests = compared_value p [] there cmp.Lt W32 (c.Var y) (c.Var z) j end a.fits end_fits value_y value_z in
         rw (tests, truth_of (nat_lt j end)) (taken (nat_lt j end) refl)
       where
@@ -375,7 +375,7 @@ module _ (defs : List Def) (typed : AreWellTyped defs) (built : AreBuilt defs) (
               (k.left.later (blank ∷ late) (keeps_new i blank late ge)) (has_number [] W32 start),
           decl_then defs p calls (bound i) o'.value (cv.Num W32 end) (turns ∷ []) late1 s2 (known_width p W32)
               (k.right.later (blank' ∷ late1) (keeps_then i (i + 1) late late1 (blank' ∷ late1) (omega arith) kept (keeps_new (i + 1) blank' late1 ge'))) (has_number [] W32 end),
-          steps.loop_is p calls [] (test i) (body_of names i),
+          forms.loop_is p calls [] (test i) (body_of names i),
         ) (sim_end (the_image defs) Q _ _
         (loop_sim (the_image defs) (AtTurn env names n i now late s2 end k.right_fits small le k.keeps k.stands) Q (λ (j : ℕ). Kept defs s2.memory) (src.for_turn x end ev'' env)
         (tgt.turn [] (tgt.value_of p (test i)) (map (tgt.do_one p calls) (body_of names i))) (kept_on defs p calls s2)

@@ -36,6 +36,7 @@ use Rattle.krml_ctree.specs.Text.{width_type}
 use Rattle.krml_ctree.specs.Parts.{Local, Locals}
 use Rattle.krml_ctree.specs.Meaning as tgt
 use Rattle.krml_ctree.specs.Meaning.{blank_local}
+use Rattle.krml_ctree.proofs.Forms as forms
 use Rattle.krml_cstar.specs.Built.{is_public}
 use Rattle.krml_cstar.specs.Translation as code
 use Rattle.krml_cstar.specs.Translation.{Names, Out, Comp, widen, narrow, work, literal, truth, plain, gives, is_unit}
@@ -47,7 +48,6 @@ use Rattle.krml_cstar.proofs.VariableNames.{number_of, number-plain}
 use Rattle.krml_cstar.proofs.Values.{c_op, literal_value, truth_value, arithmetic_value, shifted_value, compared_value, opposite_value, converted_value, divided_is, divided_value, widen_value}
 use Rattle.krml_cstar.proofs.Masks.{difference_value, eq_mask_value, gte_mask_value}
 use Rattle.krml_cstar.proofs.LocalsInC.{Keeps, Below, below_more, keeps_all, keeps_less, keeps_then, keeps_new, keeps_value, new_named, only_value}
-use Rattle.krml_cstar.proofs.Steps as steps
 use Rattle.krml_cstar.proofs.Fits.{IsPart, Holds, In, Stands, Good, Fits}
 use Rattle.krml_cstar.proofs.Forms.{holds_on, bool_value, number_value, sim_number, sim_truth, exec, made, decl_then, part_then, on_in, just_fits}
 
@@ -155,7 +155,7 @@ module _ (defs : List Def) (p : CProgram) (calls : tgt.Calls) where
         (only_value (plain n) (new_local ∷ now) new_local (cv.Num w x) (new_named n new_local now be (omega (arith, q))) refl)
 
     new_holds : (late : Locals) → Keeps (n + 1) (new_local ∷ now) late → tgt.value_of p (c.Var (plain n)) [] late ≡ Some (cv.Num w x)
-    new_holds late k = ap (λ (f : tgt.CSem). f [] late) (steps.var_is p (plain n)) ∙ new_value late k
+    new_holds late k = forms.var_is p (plain n) [] late ∙ new_value late k
 
   -- ---- two operands: what C computes is what the source does
 
@@ -179,7 +179,7 @@ module _ (defs : List Def) (p : CProgram) (calls : tgt.Calls) where
       sim_check (the_image defs) Q cause.Divisor (src.has_result o y) s (Goes z s) _ (λ some.
       let positive : 0 < y = ltb-true 0 y (sym (has y) ∙ some) in
       rw (
-        steps.div_is p calls d quotient (widen w a) (widen w b),
+        forms.div_is p calls d quotient (widen w a) (widen w b),
         known_width p (work w),
         divided_is p [] blank quotient w a b x y lx ly positive (ha.later blank kept) (hb.later blank kept),
         has_number [] (work w) (tgt.divided quotient x y),

@@ -37,6 +37,7 @@ use Rattle.krml_ctree.specs.declared.tree.CStatement.{CStatement}
 use Rattle.krml_ctree.specs.declared.tree.CProgram.{CProgram}
 use Rattle.krml_ctree.specs.Parts.{Locals, CRan}
 use Rattle.krml_ctree.specs.Meaning as tgt
+use Rattle.krml_ctree.proofs.Forms as forms
 use Rattle.krml_cstar.specs.Built.{is_ty_built, are_fields_built, AreBuilt}
 use Rattle.krml_cstar.specs.Translation as code
 use Rattle.krml_cstar.specs.Translation.{Names, Comp, is_unit, gives}
@@ -47,7 +48,6 @@ use Rattle.krml_cstar.proofs.Typed.{images_of_fields, image_struct, fields_fit}
 use Rattle.krml_cstar.proofs.PartTypes.{struct_part, type_part}
 use Rattle.krml_cstar.proofs.VariableNames.{name_is}
 use Rattle.krml_cstar.proofs.LocalsInC.{Keeps, Below, keeps_all, keeps_then}
-use Rattle.krml_cstar.proofs.Steps as steps
 use Rattle.krml_cstar.proofs.Fits.{param_types, In, Stands, Good, Fits}
 use Rattle.krml_cstar.proofs.Forms.{stands_on, exec, in_turn, part_then, on_in}
 
@@ -159,7 +159,7 @@ module _ (defs : List Def) (p : CProgram) (calls : tgt.Calls) where
                 holds = λ q. record {
                   later = λ end k.
                       let fits = fields_fit defs built s1.memory xs fields f1.shapes b.types b.values in
-                      ap (λ (f : tgt.CSem). f [] end) (steps.build_is p x os.values)
+                      forms.build_is p x os.values [] end
                       ∙ rw (lookups.struct x tvars fields is, h1.holds end k, fits) (ap (λ u. Some u) (sym (image_struct defs (names_of fields) xs x [] tvars fields is)));
                 };
               })));
@@ -252,7 +252,7 @@ module _ (defs : List Def) (p : CProgram) (calls : tgt.Calls) where
                 holds = λ q. record {
                   later = λ end e.
                       let struct = (k.good.holds (ap is_unit_in (t.outs-Named x args))).later end e ∙ ap (λ u. Some u) image in
-                      ap (λ (f : tgt.CSem). f [] end) (steps.field_is p o.value y) ∙ rw (struct, cv.outs-Struct x (images_at defs xs (param_types fields)), lookups.struct x tvars fields is, one) refl;
+                      forms.field_is p o.value y [] end ∙ rw (struct, cv.outs-Struct x (images_at defs xs (param_types fields)), lookups.struct x tvars fields is, one) refl;
                 };
               }))));
         }

@@ -47,75 +47,11 @@ use Rattle.krml_ctree.specs.Text.{as_text}
 use Rattle.krml_ctree.specs.Text as text
 use Rattle.krml_ctree.specs.Meaning as tgt
 use Rattle.krml_ctree.specs.Meaning.{value_of, do_one}
+use Rattle.krml_ctree.proofs.Forms.{var_is, lit_is, cast_is, bin_is, cmp_is, build_is, field_is, decl_is, blank_is, set_is, read_is, tab_is, write_is, div_is, call_is, run_is, arm_is, chain_is, loop_is, block_is}
 
 -- ---- how a run is computed
 
 module _ (p : CProgram) where
-  var_is : (x : List ℕ) (m : List CBlock) (locals : Locals) → value_of p (e.Var x) m locals ≡ tgt.var x m locals
-  var_is x m locals = rw (fold_out-CExpr, e.outs-Var) refl
-
-  lit_is : (w : Width) (n : ℕ) (m : List CBlock) (locals : Locals) → value_of p (e.Lit w n) m locals ≡ tgt.lit w n m locals
-  lit_is w n m locals = rw (fold_out-CExpr, e.outs-Lit) refl
-
-  cast_is : (w : Width) (a : CExpr) (m : List CBlock) (locals : Locals) → value_of p (e.Cast w a) m locals ≡ tgt.cast w (value_of p a) m locals
-  cast_is w a m locals = rw (fold_out-CExpr tgt.CSem (tgt.value_step p) (e.Cast w a), e.outs-Cast) refl
-
-  bin_is : (o : CBin) (a b : CExpr) (m : List CBlock) (locals : Locals) → value_of p (e.Bin o a b) m locals ≡ tgt.bin o (value_of p a) (value_of p b) m locals
-  bin_is o a b m locals = rw (fold_out-CExpr tgt.CSem (tgt.value_step p) (e.Bin o a b), e.outs-Bin) refl
-
-  cmp_is : (w : Width) (o : CmpKind) (a b : CExpr) (m : List CBlock) (locals : Locals) → value_of p (e.Cmp w o a b) m locals ≡ tgt.comparison w o (value_of p a) (value_of p b) m locals
-  cmp_is w o a b m locals = rw (fold_out-CExpr tgt.CSem (tgt.value_step p) (e.Cmp w o a b), e.outs-Cmp) refl
-
-  build_is : (x : List ℕ) (es : List CExpr) (m : List CBlock) (locals : Locals) → value_of p (e.Build x es) m locals ≡ tgt.build p x (map (value_of p) es) m locals
-  build_is x es m locals = rw (fold_out-CExpr, e.outs-Build) refl
-
-  field_is : (a : CExpr) (y : List ℕ) (m : List CBlock) (locals : Locals) → value_of p (e.Field a y) m locals ≡ tgt.field p (value_of p a) y m locals
-  field_is a y m locals = rw (fold_out-CExpr tgt.CSem (tgt.value_step p) (e.Field a y), e.outs-Field) refl
-
-  module _ (calls : tgt.Calls) where
-    abbrev do_arm : CArm → tgt.Arm
-    do_arm = fold-CArm tgt.Step tgt.Arm (tgt.statement_step p calls) (tgt.arm_step p)
-
-    decl_is : (x : CVar) (a : CExpr) (locals : Locals) (s : CState) → do_one p calls (st.Decl x a) locals s ≡ tgt.decl p x (value_of p a) locals s
-    decl_is x a locals s = rw (fold_out-CStatement, st.outs-Decl) refl
-
-    blank_is : (x : CVar) (locals : Locals) (s : CState) → do_one p calls (st.Blank x) locals s ≡ tgt.blank p x locals s
-    blank_is x locals s = rw (fold_out-CStatement, st.outs-Blank) refl
-
-    set_is : (x : List ℕ) (a : CExpr) (locals : Locals) (s : CState) → do_one p calls (st.Set x a) locals s ≡ tgt.assign x (value_of p a) locals s
-    set_is x a locals s = rw (fold_out-CStatement, st.outs-Set) refl
-
-    read_is : (x : CVar) (a b : CExpr) (locals : Locals) (s : CState) → do_one p calls (st.Read x a b) locals s ≡ tgt.read p x (value_of p a) (value_of p b) locals s
-    read_is x a b locals s = rw (fold_out-CStatement, st.outs-Read) refl
-
-    tab_is : (x : CVar) (y : List ℕ) (a : CExpr) (locals : Locals) (s : CState) → do_one p calls (st.Tab x y a) locals s ≡ tgt.tab p x y (value_of p a) locals s
-    tab_is x y a locals s = rw (fold_out-CStatement, st.outs-Tab) refl
-
-    write_is : (a b c : CExpr) (locals : Locals) (s : CState) → do_one p calls (st.Write a b c) locals s ≡ tgt.write (value_of p a) (value_of p b) (value_of p c) locals s
-    write_is a b c locals s = rw (fold_out-CStatement, st.outs-Write) refl
-
-    div_is : (x : CVar) (quotient : Bool) (a b : CExpr) (locals : Locals) (s : CState) → do_one p calls (st.Div x quotient a b) locals s ≡ tgt.div p x quotient (value_of p a) (value_of p b) locals s
-    div_is x quotient a b locals s = rw (fold_out-CStatement, st.outs-Div) refl
-
-    call_is : (x : CVar) (f : List ℕ) (es : List CExpr) (locals : Locals) (s : CState) → do_one p calls (st.Call x f es) locals s ≡ tgt.call p calls x f (map (value_of p) es) locals s
-    call_is x f es locals s = rw (fold_out-CStatement, st.outs-Call) refl
-
-    run_is : (f : List ℕ) (es : List CExpr) (locals : Locals) (s : CState) → do_one p calls (st.Run f es) locals s ≡ tgt.run p calls f (map (value_of p) es) locals s
-    run_is f es locals s = rw (fold_out-CStatement, st.outs-Run) refl
-
-    arm_is : (a : CExpr) (body : List CStatement) → do_arm (roll-CArm (record { test = a; body = body })) ≡ record { test = value_of p a; body = map (do_one p calls) body }
-    arm_is a body = rw (fold-roll-CArm)
-
-    chain_is : (arms : List CArm) (rest : List CStatement) (locals : Locals) (s : CState) → do_one p calls (st.Chain arms rest) locals s ≡ tgt.chain (map do_arm arms) (map (do_one p calls) rest) locals s
-    chain_is arms rest locals s = rw (fold_out-CStatement, st.outs-Chain) refl
-
-    loop_is : (first : List CStatement) (test : CExpr) (body : List CStatement) (locals : Locals) (s : CState)
-        → do_one p calls (st.Loop first test body) locals s ≡ tgt.loops (map (do_one p calls) first) (value_of p test) (map (do_one p calls) body) locals s
-    loop_is first test body locals s = rw (fold_out-CStatement, st.outs-Loop) refl
-
-    block_is : (arrays : List CArray) (body : List CStatement) (locals : Locals) (s : CState) → do_one p calls (st.Block arrays body) locals s ≡ tgt.block p arrays (map (do_one p calls) body) locals s
-    block_is arrays body locals s = rw (fold_out-CStatement, st.outs-Block) refl
-
   known_u8 : is_known p t.U8 ≡ true
   known_u8 = rw (fold_out-CType, t.outs-U8)
 

@@ -3,6 +3,7 @@ pub mod Arms
 pub mod Blocks
 pub mod Cut
 pub mod Examples
+pub mod Forms
 pub mod Many
 pub mod Names
 pub mod Parse
