@@ -21,7 +21,7 @@ use Rattle.krml_syntax.specs.declared.tree.Slot.{Slot}
 use Rattle.krml_syntax.specs.File.{SpellsFile}
 use Rattle.krml_syntax.specs.Name.{IsName}
 use Rattle.krml_ast.specs.declared.file.Emitted.{Emitted}
-use Rattle.krml_ast.specs.IsType.{IsFlat}
+use Rattle.krml_ast.specs.IsType.{IsFlat, IsType}
 use Rattle.krml_ast.specs.WellTyped.{AreWellTyped, type_name, con_names, table_name, fun_name, entry_name}
 use Rattle.krml_ast.specs.Pieces.{Piece, Value, Test, Written, Bound, pieces_in}
 
@@ -42,8 +42,9 @@ HasSize (d.Table x i nums) = IsBetween 1 65536 (length nums)
 HasSize (d.Fun x vars params result body) = Unit {0}
 HasSize (d.Entry x) = Unit {0}
 
--- a slot has 1 to 65,536 elements, of a flat type
+-- a slot has 1 to 65,536 elements, of a flat type of the file without type variables
 pub record IsSlot (defs : List Def) (s : Slot) : Type 0 where
+  pub typed : IsType defs [] s.ty
   pub flat : IsFlat defs s.ty
   pub size : IsBetween 1 65536 s.len
 
@@ -202,11 +203,19 @@ EachForm P defs = AllByRecursion (FormIn P) (pieces_in defs)
 
 -- ---- the forms
 
--- Some text within the limits spells the file, and each definition is well typed.
-pub record IsChecked (file : SourceFile) : Type 0 where
+-- Some text within the limits spells the file.
+pub record IsSpelled (file : SourceFile) : Type 0 where
   pub text : List ℕ
-  pub spelled : SpellsFile text file
+  pub spells : SpellsFile text file
+
+-- It is spelled, and each definition is well typed.
+pub record IsTypedFile (file : SourceFile) : Type 0 where
+  pub spelled : IsSpelled file
   pub typed : AreWellTyped file.defs
+
+-- A typed file whose rules are checked; there are none beyond types.
+pub record IsChecked (file : SourceFile) : Type 0 where
+  pub typed_file : IsTypedFile file
 
 -- A file without type variables, as the source writes it else.
 pub record IsMono (file : SourceFile) : Type 0 where

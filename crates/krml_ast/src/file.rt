@@ -7,7 +7,7 @@ use krml_syntax::SourceFile;
 use krml_trace::{Name, Seq};
 use std::marker::Model;
 
-/// A file that some text within the limits spells, and whose definitions are well typed.
+/// A file that some text within the limits spells, whose definitions are well typed.
 #[derive(Drop)]
 pub struct CheckedFile {
     inner: SourceFile,
@@ -42,6 +42,15 @@ impl CheckedFile {
         ensures form { ∥ IsChecked self.now ∥₁ }
     {
         &self.inner
+    }
+
+    /// The file, taken out.
+    pub fn into_file(self) -> SourceFile
+        ensures value { result ≡ self }
+        ensures form { ∥ IsChecked self ∥₁ }
+    {
+        let CheckedFile { inner, .. } = self;
+        inner
     }
 }
 
@@ -81,6 +90,15 @@ impl MonoFile {
     {
         &self.inner
     }
+
+    /// The file, taken out.
+    pub fn into_file(self) -> SourceFile
+        ensures value { result ≡ self }
+        ensures form { ∥ IsMono self ∥₁ }
+    {
+        let MonoFile { inner, .. } = self;
+        inner
+    }
 }
 
 /// A file with cases in place of matches.
@@ -119,6 +137,15 @@ impl PlainFile {
     {
         &self.inner
     }
+
+    /// The file, taken out.
+    pub fn into_file(self) -> SourceFile
+        ensures value { result ≡ self }
+        ensures form { ∥ IsPlain self ∥₁ }
+    {
+        let PlainFile { inner, .. } = self;
+        inner
+    }
 }
 
 /// A file whose frames list their slots, with fills in place of allocations.
@@ -156,6 +183,15 @@ impl HoistedFile {
         ensures form { ∥ IsHoisted self.now ∥₁ }
     {
         &self.inner
+    }
+
+    /// The file, taken out.
+    pub fn into_file(self) -> SourceFile
+        ensures value { result ≡ self }
+        ensures form { ∥ IsHoisted self ∥₁ }
+    {
+        let HoistedFile { inner, .. } = self;
+        inner
     }
 }
 
@@ -206,6 +242,15 @@ impl BundledFile {
         ensures form { ∥ IsBundled self.now.0 self.now.1 ∥₁ }
     {
         &self.inner
+    }
+
+    /// The file, taken out.
+    pub fn into_file(self) -> SourceFile
+        ensures value { result ≡ self.0 }
+        ensures form { ∥ IsBundled self.0 self.1 ∥₁ }
+    {
+        let BundledFile { inner, .. } = self;
+        inner
     }
 
     /// The emitted name of an entry. `None` where the file has no entry of that name.

@@ -16,7 +16,7 @@ use Rattle.krml_meaning.proofs.Lists.{map_length}
 use Rattle.krml_bundle.specs.Emitted.{emitted_field}
 use Rattle.krml_bundle.specs.Bundled.{ty_bundled, field_bundled, con_bundled, slot_bundled, expr_bundled, def_bundled}
 use Rattle.krml_bundle.proofs.RunsValues.{ty_under, out_ty_bundled}
-use Rattle.krml_bundle.proofs.FormTypes.{flat_kept}
+use Rattle.krml_bundle.proofs.FormTypes.{flat_kept, type_kept}
 use Rattle.krml_bundle.proofs.FormExprs as f
 use Rattle.krml_bundle.proofs.FormExprs.{form_bundled, out_expr_bundled}
 use Rattle.krml_bundle.proofs.FormPieces.{piece_bundled, file_pieces}
@@ -56,7 +56,7 @@ module _ (defs : List Def) where
   defs' = map def_bundled defs
 
   slot_kept : (s : Slot) → IsSlot defs s → IsSlot defs' (slot_bundled s)
-  slot_kept s h = record { flat = flat_kept defs s.ty h.flat; size = h.size }
+  slot_kept s h = record { typed = type_kept defs [] s.ty h.typed; flat = flat_kept defs s.ty h.flat; size = h.size }
 
   slots_kept : (o : Form) → HasSlots defs o → HasSlots defs' (form_bundled o)
   slots_kept (Expr-F.Frame slots a) h = each_map slot_bundled (IsSlot defs) (IsSlot defs') slots slot_kept h

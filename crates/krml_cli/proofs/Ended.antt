@@ -12,7 +12,7 @@ use Rattle.krml_reader.specs.declared.refusal.ReadRefusal.TheVariants as read
 use Rattle.krml_reader.specs.Read.{IsRefused}
 use Rattle.krml_types.specs.declared.refusal.TypeRefusal.{TypeRefusal}
 use Rattle.krml_types.specs.declared.refusal.TypeRefusal.TheVariants as types
-use Rattle.krml_types.specs.Check.{IsChecked}
+use Rattle.krml_types.specs.Check.{IsRightAnswer}
 use Rattle.krml_bundle.specs.Bundled.{bundled}
 use Rattle.krml_cstar.specs.Built.{AreBuilt, first_unbuilt, IsFirstUnbuilt}
 use Rattle.krml_cstar.specs.Translation.{program_of}
@@ -51,10 +51,10 @@ unread_by text why r is e h = refuses_by text (of_read why) r is e (at why h)
 
 -- one that spells a file with a definition that is not well typed
 pub ill_typed_by : (A : Type 0) (text : List ℕ) (file : SourceFile) (why : TypeRefusal) (r : Answer) → IsErr r → IsErrAnd r (λ e. e ≡ of_type why) → SpellsFile text file
-    → IsChecked {A = A} file.defs (Err why) → IsAnswered text r
+    → IsRightAnswer {A = A} file.defs (Err why) → IsAnswered text r
 ill_typed_by A text file why r is e s h = refuses_by text (of_type why) r is e (at why h)
   where
-    at : (why : TypeRefusal) → IsChecked {A = A} file.defs (Err why) → IsAnswered text (Err (of_type why))
+    at : (why : TypeRefusal) → IsRightAnswer {A = A} file.defs (Err why) → IsAnswered text (Err (of_type why))
     at (types.Fault def) h = λ command. Refuses.ill_typed s h
     at types.NoMemory h = tt
 

@@ -1,4 +1,4 @@
--- What a run takes of the forms that no text of the source spells, beyond their types: slots of frames are flat, and the
+-- What a run takes of the forms that no text of the source spells, beyond their types: slots of frames are slots of the file, and the
 -- arguments of constructors that are asked for have zero values.
 use Rattle.std.proofs.Common.{◌≡◌, ℕ, List, [], ◌∷◌, map, Some}
 use Rattle.std.specs.List.{AllByRecursion}
@@ -7,13 +7,12 @@ use Rattle.krml_syntax.specs.declared.tree.Ty.TheVariants as t
 use Rattle.krml_syntax.specs.declared.tree.Arm.{Arm}
 use Rattle.krml_syntax.specs.declared.tree.Case.{Case}
 use Rattle.krml_syntax.specs.declared.tree.Item.{Item}
-use Rattle.krml_syntax.specs.declared.tree.Slot.{Slot}
 use Rattle.krml_syntax.specs.declared.tree.Expr.{Expr}
 use Rattle.krml_syntax.specs.declared.tree.Def.{Def}
 use Rattle.krml_syntax.specs.Types.{erased, int_ty, u32}
-use Rattle.krml_ast.specs.IsType.{IsFlat}
 use Rattle.krml_ast.specs.Typing.{Scope, with_vars, in_loop, in_frame, HasType, AllHaveType, ArmsHaveType, ItemsLead, CasesHaveType, fields_at}
 use Rattle.krml_ast.specs.Typing as typing
+use Rattle.krml_ast.specs.FileTypes.{IsSlot}
 use Rattle.krml_meaning.specs.declared.value.Value.{Value}
 use Rattle.krml_meaning.specs.Meaning.{zero_value}
 use Rattle.krml_meaning.specs.Shape.{HasShape}
@@ -48,7 +47,7 @@ module _ (defs : List Def) where
       IsProper g x r (HasType.choice {c = c} {a = a} {b = b} dc da db) = IsProper g c t.Bool dc × IsProper g a r da × IsProper g b r db
       IsProper g x r (HasType.match {a = a} {s = s} {x = y} {xs = xs} da nu ds) = IsProper g a s da × ArmsProper g s (y ∷ xs) r ds
       IsProper g x r (HasType.block {h = h} {items = items} {a = a} ds da) = ItemsProper g items h ds × IsProper h a r da
-      IsProper g x r (HasType.frame {slots = slots} {a = a} da res) = IsProper (in_frame slots g) a r da × AllByRecursion (λ (s : Slot). IsFlat defs s.ty) slots
+      IsProper g x r (HasType.frame {slots = slots} {a = a} da res) = IsProper (in_frame slots g) a r da × AllByRecursion (IsSlot defs) slots
       IsProper g x r (HasType.alloc {b = b} {a = a} is ok f least most da) = IsProper g a (erased b) da
       IsProper g x r (HasType.while {c = c} {a = a} dc da) = IsProper (in_loop g) c t.Bool dc × IsProper (in_loop g) a t.Unit da
       IsProper g x r (HasType.for {x = y} {a = a} {b = b} {c = c} da db dc) =

@@ -2,14 +2,12 @@
 use Rattle.std.proofs.Common.{◌≡◌, List, [], ◌∷◌, flat_map, sym, subst}
 use Rattle.std.specs.List.{AllByRecursion}
 use Rattle.krml_syntax.specs.declared.tree.CmpOp.TheVariants.{Eq}
-use Rattle.krml_syntax.specs.declared.tree.Slot.{Slot}
 use Rattle.krml_syntax.specs.declared.tree.Expr.{Expr, out-Expr}
 use Rattle.krml_syntax.specs.declared.tree.Expr.TheVariants as e
 use Rattle.krml_syntax.specs.declared.tree.Expr.TheOpen.{Expr-F}
 use Rattle.krml_syntax.specs.declared.tree.Def.{Def}
 use Rattle.krml_syntax.specs.declared.tree.SourceFile.{SourceFile}
 use Rattle.krml_ast.specs.declared.file.Emitted.{Emitted}
-use Rattle.krml_ast.specs.IsType.{IsFlat}
 use Rattle.krml_ast.specs.Pieces.{Piece, Value, Test, Pattern, Written, Bound, pieces_in}
 use Rattle.krml_ast.specs.FileTypes.{Form, FormIn, EachForm, HasSize, IsSlot, HasSlots, SlotsIn, TestsIn, IsTest, IsPlace, HasNoSlots, HasNoCases, HasSlotsListed, IsMono, IsPlain, IsHoisted, IsBundled, listed_vars}
 use Rattle.krml_meaning.specs.Sound.{CanRun}
@@ -38,7 +36,7 @@ module _ (defs : List Def) where
   source_form (Expr-F.If c a b) s no' = tt
   source_form (Expr-F.Match a arms) s no' = tt
   source_form (Expr-F.Do items a) s no' = tt
-  source_form (Expr-F.Frame slots a) s no' = subst (AllByRecursion (λ (z : Slot). IsFlat defs z.ty)) (sym s) tt
+  source_form (Expr-F.Frame slots a) s no' = subst (AllByRecursion (IsSlot defs)) (sym s) tt
   source_form (Expr-F.Alloc b n a) s no' = tt
   source_form (Expr-F.While c a) s no' = tt
   source_form (Expr-F.For x a b c) s no' = tt
@@ -71,7 +69,7 @@ module _ (defs : List Def) where
     cases_form (Expr-F.If c a b) s = tt
     cases_form (Expr-F.Match a arms) s = tt
     cases_form (Expr-F.Do items a) s = tt
-    cases_form (Expr-F.Frame slots a) s = subst (AllByRecursion (λ (z : Slot). IsFlat defs z.ty)) (sym s) tt
+    cases_form (Expr-F.Frame slots a) s = subst (AllByRecursion (IsSlot defs)) (sym s) tt
     cases_form (Expr-F.Alloc b n a) s = tt
     cases_form (Expr-F.While c a) s = tt
     cases_form (Expr-F.For x a b c) s = tt
@@ -103,7 +101,7 @@ module _ (defs : List Def) where
     slots_form (Expr-F.If c a b) s = tt
     slots_form (Expr-F.Match a arms) s = tt
     slots_form (Expr-F.Do items a) s = tt
-    slots_form (Expr-F.Frame slots a) s = each_so (IsSlot defs) (λ (z : Slot). IsFlat defs z.ty) slots (λ z k. k.flat) s
+    slots_form (Expr-F.Frame slots a) s = s
     slots_form (Expr-F.Alloc b n a) s = tt
     slots_form (Expr-F.While c a) s = tt
     slots_form (Expr-F.For x a b c) s = tt

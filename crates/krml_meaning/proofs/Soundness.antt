@@ -17,6 +17,7 @@ use Rattle.krml_ast.specs.Names.{Constructor, field_named}
 use Rattle.krml_syntax.specs.Types.{erased, int_ty, u32, type_at}
 use Rattle.krml_ast.specs.IsType.{IsFlat, IsType, AreArguments}
 use Rattle.krml_ast.specs.Typing.{Scope, with_vars, in_loop, in_frame, fields_at, at, HasType, AllHaveType, ArmsHaveType, ItemsLead, CasesHaveType}
+use Rattle.krml_ast.specs.FileTypes.{IsSlot}
 use Rattle.krml_meaning.specs.declared.value.Value.TheVariants as v
 use Rattle.krml_meaning.specs.State.{Block, Env, Sem, closed}
 use Rattle.krml_meaning.specs.Numbered.{Numbered}
@@ -78,6 +79,9 @@ module _ (defs : List Def) (facts : Facts defs) (at_args : Instance defs) (calls
 
   con_types : (x : List ℕ) (c : Constructor) (i : InSum defs x c) → AllByRecursion (IsType defs c.vars) c.args
   con_types x c i = subst (λ z. AllByRecursion (IsType defs c.vars) z) i.args (types_of c.vars i.con.args (facts.cons c.sum c.vars i.cons i.k i.con i.is i.there))
+
+  flat_slots : (slots : List Slot) → AllByRecursion (IsSlot defs) slots → AllByRecursion (λ (s : Slot). IsFlat defs s.ty) slots
+  flat_slots slots h = each_so (IsSlot defs) (λ (s : Slot). IsFlat defs s.ty) slots (λ s k. k.flat) h
 
   same_passed : (g : Scope) (k : ℕ) (slots : List Slot) (args : List Ty) (m : List Block) (env : Env) → At defs at_args g k slots m env
       → map (closed env) args ≡ map (close_written defs at_args) args
@@ -188,7 +192,7 @@ module _ (defs : List Def) (facts : Facts defs) (at_args : Instance defs) (calls
       sound g x r (HasType.block {h = h} {items = items} {a = a} ds da) pr = rw (evals.block_is defs calls items a)
           (block_of defs at_args g h (here r) (map (evals.item_means defs calls) items) (evals.means defs calls a) (sound_items g items h ds pr.0) (sound h a r da pr.1))
       sound g x r (HasType.frame {slots = slots} {a = a} da res) pr = rw (evals.frame_is defs calls slots a)
-          (frame_of defs at_args facts g slots (here r) (evals.means defs calls a) pr.1 (result_closed defs at_args r res) (sound (in_frame slots g) a r da pr.0))
+          (frame_of defs at_args facts g slots (here r) (evals.means defs calls a) (flat_slots slots pr.1) (result_closed defs at_args r res) (sound (in_frame slots g) a r da pr.0))
       sound g x r (HasType.alloc {slots = slots} {b = b} {n = n} {a = a} is ok f least most da) pr = rw (evals.alloc_is defs calls b n a, close_buf defs at_args (erased b))
           (alloc_of defs at_args facts g slots (record { ty = b; len = n }) (evals.means defs calls a) is f (sound g a (erased b) da pr))
       sound g x r (HasType.while {c = c} {a = a} dc da) pr = rw (evals.while_is defs calls c a, close_unit defs at_args)

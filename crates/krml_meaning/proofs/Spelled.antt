@@ -21,7 +21,7 @@ use Rattle.krml_syntax.specs.declared.tree.SourceFile.{SourceFile}
 use Rattle.krml_syntax.specs.Spelling.{Each, Spells, SpellsAll, SpellsArm, SpellsArms, SpellsItem, SpellsItems, SpellsDef}
 use Rattle.krml_syntax.specs.File.{SpellsFile}
 use Rattle.krml_ast.specs.Pieces.{Piece, Bound, inside_level_ty, inside_level_pat, pieces_of, pieces_of_ty, pieces_of_pat, pieces_of_def, pieces_in, field_types}
-use Rattle.krml_ast.specs.FileTypes.{FormIn, EachForm, IsChecked}
+use Rattle.krml_ast.specs.FileTypes.{FormIn, EachForm, IsTypedFile}
 use Rattle.krml_meaning.specs.Sound.{CanRun, CheckedFilesRun}
 use Rattle.krml_meaning.proofs.Entries.{typed_runs}
 use Rattle.krml_meaning.proofs.Lists.{each_append}
@@ -178,8 +178,8 @@ module _ (defs : List Def) where
 pub spelled_can_run : (text : List ℕ) (file : SourceFile) → SpellsFile text file → EachForm (CanRun file.defs) file.defs
 spelled_can_run text file s = defs_run file.defs s.forms file.defs s.spelled
 
-pub checked_can_run : (file : SourceFile) → IsChecked file → EachForm (CanRun file.defs) file.defs
-checked_can_run file c = spelled_can_run c.text file c.spelled
+pub checked_can_run : (file : SourceFile) → IsTypedFile file → EachForm (CanRun file.defs) file.defs
+checked_can_run file c = spelled_can_run c.spelled.text file c.spelled.spells
 
 pub checked_runs : CheckedFilesRun
 checked_runs file entry args bound c fit = typed_runs file entry args bound c.typed (checked_can_run file c) fit

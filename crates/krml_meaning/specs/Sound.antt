@@ -10,8 +10,8 @@ use Rattle.krml_syntax.specs.declared.tree.Expr.TheOpen.{Expr-F}
 use Rattle.krml_syntax.specs.declared.tree.Def.{Def}
 use Rattle.krml_syntax.specs.declared.tree.SourceFile.{SourceFile}
 use Rattle.krml_ast.specs.Names.{Signature, fun_named}
-use Rattle.krml_ast.specs.IsType.{IsValue, IsFlat}
-use Rattle.krml_ast.specs.FileTypes.{Form, EachForm, HasSize, IsChecked, listed_vars}
+use Rattle.krml_ast.specs.IsType.{IsValue}
+use Rattle.krml_ast.specs.FileTypes.{Form, EachForm, HasSize, IsSlot, IsTypedFile, listed_vars}
 use Rattle.krml_ast.specs.WellTyped.{AreWellTyped}
 use Rattle.krml_meaning.specs.declared.value.Value.{Value}
 use Rattle.krml_meaning.specs.State.{Block, SourceState}
@@ -24,10 +24,10 @@ pub record Fine (defs : List Def) (m : List Block) (a : Ty) (x : Value) (s : Sou
   pub shape : HasShape defs s.memory x a
   pub memory : MemoryTyped defs s.memory
 
--- What a run takes of a form that no text spells, beyond its types: the slots that a frame lists are flat, and arguments of
--- constructors are asked for only where there are no type variables, and no sum without constructors.
+-- What a run takes of a form that no text spells, beyond its types: the slots that a frame lists are slots of the file, and
+-- arguments of constructors are asked for only where there are no type variables, and no sum without constructors.
 abbrev pub CanRun : List Def → Form → Type 0
-CanRun defs (Expr-F.Frame slots a) = AllByRecursion (λ s. IsFlat defs s.ty) slots
+CanRun defs (Expr-F.Frame slots a) = AllByRecursion (IsSlot defs) slots
 CanRun defs (Expr-F.Part x j a) = (flat_map listed_vars defs ≡ []) × AllByRecursion HasSize defs
 CanRun defs _ = Unit {0}
 
@@ -54,4 +54,4 @@ TypedFilesRun = (file : SourceFile) (entry : List ℕ) (args : Arguments) (bound
 
 -- So are those of a file that a text spells, once its types are checked.
 abbrev pub CheckedFilesRun : Type 0
-CheckedFilesRun = (file : SourceFile) (entry : List ℕ) (args : Arguments) (bound : Bound) → IsChecked file → ArgumentsFit file entry args → RunsWell file entry args bound
+CheckedFilesRun = (file : SourceFile) (entry : List ℕ) (args : Arguments) (bound : Bound) → IsTypedFile file → ArgumentsFit file entry args → RunsWell file entry args bound

@@ -19,7 +19,7 @@ abbrev pub IsFirstFault : List Def → ℕ → Type 0
 IsFirstFault defs k = ((j : ℕ) → j < k → IsWellTyped defs j) × (IsWellTyped defs k → ⊥)
 
 -- The answer is one where all definitions are well typed, else the first that is not; it may be want of memory.
-abbrev pub IsChecked : {A : Type 0} → List Def → Result A TypeRefusal → Type 0
-IsChecked defs (Ok typed) = AreWellTyped defs
-IsChecked defs (Err (Fault k)) = IsFirstFault defs k
-IsChecked defs (Err NoMemory) = Unit {0}
+abbrev pub IsRightAnswer : {A : Type 0} → List Def → Result A TypeRefusal → Type 0
+IsRightAnswer defs (Ok typed) = AreWellTyped defs
+IsRightAnswer defs (Err (Fault k)) = IsFirstFault defs k
+IsRightAnswer defs (Err NoMemory) = Unit {0}

@@ -1,5 +1,6 @@
 ghost use Rattle.std.specs.Prelude.{◌≡◌, IfOk};
-ghost use Rattle.krml_types.specs.Check.{fault_from, first_fault, IsChecked};
+ghost use Rattle.krml_ast.specs.FileTypes.{IsSpelled};
+ghost use Rattle.krml_types.specs.Check.{fault_from, first_fault, IsRightAnswer};
 
 use crate::index::Index;
 use crate::judge::Judge;
@@ -34,9 +35,11 @@ fn first_fault(alloc: Global, defs: &[Def]) -> Result<Option<usize>, NoMemory>
 }
 
 /// The file with its types, where all its definitions are well typed. Else `Fault` has the place of the first that is not.
+/// Some text within the limits is to spell the file, as reading it says.
 pub fn check_types(alloc: Global, file: SourceFile) -> Result<TypedFile, TypeRefusal>
+    requires spelled { ∥ IsSpelled file ∥₁ }
     ensures typed { IfOk result (λ r. r ≡ file) }
-    ensures answer { IsChecked file.defs result }
+    ensures answer { IsRightAnswer file.defs result }
 {
     match first_fault(alloc, file.defs.as_slice())? {
         None => Ok(TypedFile::new(file)),

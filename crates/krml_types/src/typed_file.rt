@@ -1,15 +1,17 @@
 ghost use Rattle.std.specs.Prelude.{◌≡◌, None};
 ghost use Rattle.krml_ast.specs.WellTyped.{AreWellTyped};
+ghost use Rattle.krml_ast.specs.FileTypes.{IsTypedFile};
 ghost use Rattle.krml_types.specs.Check.{first_fault};
 
 use krml_syntax::SourceFile;
 use std::marker::Model;
 
-/// A file whose definitions are well typed.
+/// A file that some text within the limits spells, whose definitions are well typed.
 #[derive(Drop)]
 pub struct TypedFile {
     inner: SourceFile,
     ghost typed: { first_fault inner.defs ≡ None },
+    ghost form: { ∥ IsTypedFile inner ∥₁ },
 }
 
 impl Model for TypedFile {
@@ -27,7 +29,8 @@ impl Model for TypedFile {
 
 impl TypedFile {
     pub(crate) fn new(inner: SourceFile) -> TypedFile
-        requires { first_fault inner.defs ≡ None }
+        requires typed { first_fault inner.defs ≡ None }
+        requires form { ∥ IsTypedFile inner ∥₁ }
         ensures { result ≡ inner }
     {
         TypedFile { inner }
@@ -37,6 +40,7 @@ impl TypedFile {
     pub fn file(&self) -> &SourceFile
         ensures value { result.now ≡ self.now }
         ensures typed { AreWellTyped self.now.defs }
+        ensures form { ∥ IsTypedFile self.now ∥₁ }
     {
         &self.inner
     }
@@ -45,6 +49,7 @@ impl TypedFile {
     pub fn into_file(self) -> SourceFile
         ensures value { result ≡ self }
         ensures typed { AreWellTyped self.defs }
+        ensures form { ∥ IsTypedFile self ∥₁ }
     {
         let TypedFile { inner, .. } = self;
         inner
