@@ -64,7 +64,7 @@ ran_built a = rw (fold_out-Item, item.outs-Run)
 
 -- ---- forms that are not built
 
-off : false ≡ true → ⊥
+pub off : false ≡ true → ⊥
 off e = cc
 
 pub no_hide : (i : IntTy) (a : Expr) → is_expr_built (e.Hide i a) ≡ true → ⊥

@@ -1,7 +1,9 @@
 pub mod Arguments
 pub mod Blocks
 pub mod BuiltBodies
+pub mod BuiltFiles
 pub mod BuiltForms
+pub mod BuiltPieces
 pub mod Calls
 pub mod Choices
 pub mod Codes

@@ -1,0 +1,262 @@
+-- A file whose definitions are built has the form of each file between passes: no pass before the last has anything to do.
+use Rattle.std.proofs.Common.{◌≡◌, ℕ, ◌≤◌, Bool, true, false, ◌&&◌, nat_lt, if◌then◌else◌, List, [], ◌∷◌, map, flat_map, Option, Some, None, inl, refl, sym, subst, arith}
+use Rattle.std.specs.List.{AllByRecursion}
+use Rattle.std.proofs.lemmas.Bool.{and_parts}
+use Rattle.std.proofs.lemmas.Bool.Decides.{nat_tests}
+use Rattle.krml_forms.specs.declared.form.Form.{Form as Word}
+use Rattle.krml_syntax.specs.declared.limit.LimitKind.{LimitKind}
+use Rattle.krml_syntax.specs.declared.limit.LimitKind.TheVariants as k
+use Rattle.krml_syntax.specs.declared.tree.Field.{Field}
+use Rattle.krml_syntax.specs.declared.tree.Expr.{out-Expr}
+use Rattle.krml_syntax.specs.declared.tree.Expr.TheOpen.{Expr-F}
+use Rattle.krml_syntax.specs.declared.tree.Def.{Def}
+use Rattle.krml_syntax.specs.declared.tree.Def.TheVariants as d
+use Rattle.krml_syntax.specs.declared.tree.SourceFile.{SourceFile}
+use Rattle.krml_syntax.specs.Name.{IsName}
+use Rattle.krml_syntax.specs.Spelling.{Each, SpellsField, SpellsDef}
+use Rattle.krml_syntax.specs.Limits.{counts_in, counts_each, first_above, excess, excess_or, first_excess, first_excess_of}
+use Rattle.krml_syntax.specs.File.{SpellsFile}
+use Rattle.krml_ast.specs.WellTyped.{type_name, con_names, table_name, fun_name}
+use Rattle.krml_ast.specs.Pieces.{Piece, Value, Test, Pattern, Written, Bound, pieces_in}
+use Rattle.krml_ast.specs.FileTypes.{Form, FormIn, EachForm, HasSize, IsSlot, HasSlots, SlotsIn, HasNoMatch, HasNoTag, HasNoCases, HasNoAlloc, HasNoSlots, ClosedIn, IsMonomorphic, TestsIn, IsSourceName, IsVariable, AreNamed, IsTypedFile, IsChecked, IsMono, IsPlain, IsHoisted, field_names, bound_name, listed_vars}
+use Rattle.krml_meaning.proofs.Lists.{each_append, each_left, each_right, each_so}
+use Rattle.krml_meaning.proofs.Spelled.{IsSource, all_source, no_cases, no_slots}
+use Rattle.krml_cstar.specs.Built.{is_empty, is_ty_built, are_fields_built, is_expr_built, is_built, AreBuilt}
+use Rattle.krml_cstar.proofs.Part.{nothing_listed}
+use Rattle.krml_cstar.proofs.BuiltPieces.{Keeps, InPart, built_pieces}
+
+-- ---- what follows for each piece of what is built
+
+-- what holds of the forms that the part keeps
+form_so : (P : Form → Type 0) → ((f : Form) → Keeps f → P f) → (x : Piece) → InPart x → FormIn P x
+form_so P so (Value x) h = so (out-Expr x) h
+form_so P so (Test x) h = absurd h
+form_so P so (Pattern q) h = tt
+form_so P so (Written a) h = tt
+form_so P so (Bound x) h = tt
+
+closed : (x : Piece) → InPart x → ClosedIn x
+closed (Value x) h = h.arguments
+closed (Test x) h = absurd h
+closed (Pattern q) h = absurd h
+closed (Written a) h = h
+closed (Bound x) h = tt
+
+untagged : (f : Form) → HasNoCases f → HasNoTag f
+untagged (Expr-F.TagIs x a) h = h
+untagged _ h = tt
+
+no_tests : (x : Piece) → InPart x → TestsIn x
+no_tests (Value x) h = untagged (out-Expr x) h.cases
+no_tests (Test x) h = absurd h
+no_tests (Pattern q) h = absurd h
+no_tests (Written a) h = tt
+no_tests (Bound x) h = tt
+
+module _ (defs : List Def) (built : AreBuilt defs) where
+  all : AllByRecursion InPart (pieces_in defs)
+  all = built_pieces defs built
+
+  each_form : (P : Form → Type 0) → ((f : Form) → Keeps f → P f) → EachForm P defs
+  each_form P so = each_so InPart (FormIn P) (pieces_in defs) (form_so P so) all
+
+  no_match : EachForm HasNoMatch defs
+  no_match = each_form HasNoMatch (λ f h. h.match)
+
+  no_alloc : EachForm HasNoAlloc defs
+  no_alloc = each_form HasNoAlloc (λ f h. h.alloc)
+
+  tests : AllByRecursion TestsIn (pieces_in defs)
+  tests = each_so InPart TestsIn (pieces_in defs) no_tests all
+
+-- ---- what no text spells
+
+-- frames without slots have no wrong ones
+no_wrong_slots : (defs : List Def) (f : Form) → HasNoSlots f → HasSlots defs f
+no_wrong_slots defs (Expr-F.Frame slots a) h = subst (AllByRecursion (IsSlot defs)) (sym h) tt
+no_wrong_slots defs _ h = tt
+
+slots_in : (defs : List Def) (x : Piece) → FormIn HasNoSlots x → SlotsIn defs x
+slots_in defs (Value x) h = no_wrong_slots defs (out-Expr x) h
+slots_in defs (Test x) h = tt
+slots_in defs (Pattern q) h = tt
+slots_in defs (Written a) h = tt
+slots_in defs (Bound x) h = tt
+
+-- the variables that a text binds are names
+bound_named : (pieces : List Piece) → AllByRecursion IsSource pieces → AllByRecursion IsName (flat_map bound_name pieces)
+bound_named [] h = tt
+bound_named (Value x ∷ pieces) h = bound_named pieces h.1
+bound_named (Test x ∷ pieces) h = absurd h.0
+bound_named (Pattern q ∷ pieces) h = bound_named pieces h.1
+bound_named (Written a ∷ pieces) h = bound_named pieces h.1
+bound_named (Bound x ∷ pieces) h = (h.0, bound_named pieces h.1)
+
+-- ---- sizes
+
+-- no count is above a limit where none is the first
+none_above : (limit : ℕ) (ns : List ℕ) → first_above limit ns ≡ None → AllByRecursion (λ n. n ≤ limit) ns
+none_above limit [] h = tt
+none_above limit (n ∷ ns) h = go (nat_lt limit n) refl h (none_above limit ns)
+  where
+    go : (b : Bool) → nat_lt limit n ≡ b → (if b then Some n else first_above limit ns) ≡ None → (first_above limit ns ≡ None → AllByRecursion (λ n. n ≤ limit) ns)
+        → AllByRecursion (λ n. n ≤ limit) (n ∷ ns)
+    go true q e' rest = absurd (cc)
+    go false q e' rest = (grind (arith, nat_tests), rest e')
+
+no_excess : (kind : LimitKind) (later : Option (LimitKind × ℕ)) (o : Option ℕ) → excess_or kind later o ≡ None → (o ≡ None) × (later ≡ None)
+no_excess kind later None h = (refl, h)
+no_excess kind later (Some n) h = absurd (cc)
+
+elements_within : (fs : List Word) (defs : List Def) → first_excess fs defs ≡ None → AllByRecursion (λ n. n ≤ 65536) (counts_each k.Elements fs defs)
+elements_within fs defs h =
+    let a = no_excess k.Definitions (first_excess_of (k.Name ∷ k.Forms ∷ k.Variables ∷ k.Parameters ∷ k.Fields ∷ k.Constructors ∷ k.Elements ∷ []) fs defs) (excess k.Definitions fs defs) h in
+    let b = no_excess k.Name (first_excess_of (k.Forms ∷ k.Variables ∷ k.Parameters ∷ k.Fields ∷ k.Constructors ∷ k.Elements ∷ []) fs defs) (excess k.Name fs defs) a.1 in
+    let c = no_excess k.Forms (first_excess_of (k.Variables ∷ k.Parameters ∷ k.Fields ∷ k.Constructors ∷ k.Elements ∷ []) fs defs) (excess k.Forms fs defs) b.1 in
+    let d' = no_excess k.Variables (first_excess_of (k.Parameters ∷ k.Fields ∷ k.Constructors ∷ k.Elements ∷ []) fs defs) (excess k.Variables fs defs) c.1 in
+    let e' = no_excess k.Parameters (first_excess_of (k.Fields ∷ k.Constructors ∷ k.Elements ∷ []) fs defs) (excess k.Parameters fs defs) d'.1 in
+    let f = no_excess k.Fields (first_excess_of (k.Constructors ∷ k.Elements ∷ []) fs defs) (excess k.Fields fs defs) e'.1 in
+    let g = no_excess k.Constructors (first_excess_of (k.Elements ∷ []) fs defs) (excess k.Constructors fs defs) f.1 in
+    none_above 65536 (counts_each k.Elements fs defs) (no_excess k.Elements None (excess k.Elements fs defs) g.1).0
+
+size_of : (f : Word) (def : Def) → SpellsDef f def → is_built def ≡ true → AllByRecursion (λ n. n ≤ 65536) (counts_in k.Elements f def) → HasSize def
+size_of f def (SpellsDef.struct ok vs sa ss) h c = omega arith
+size_of f def (SpellsDef.sum ok vs sa ss) h c = absurd (cc)
+size_of f def (SpellsDef.table ok sn ss) h c = (omega arith, c.0)
+size_of f def (SpellsDef.fun ok vs sp sr sb) h c = tt
+size_of f def (SpellsDef.entry ok) h c = tt
+
+sizes_of : (fs : List Word) (defs : List Def) → Each SpellsDef fs defs → AreBuilt defs → AllByRecursion (λ n. n ≤ 65536) (counts_each k.Elements fs defs) → AllByRecursion HasSize defs
+sizes_of fs defs Each.none h c = tt
+sizes_of fs defs (Each.one {x = f} {y = def} {xs = gs} {ys = more} sx ss) h c = (
+  size_of f def sx h.0 (each_left (λ n. n ≤ 65536) (counts_in k.Elements f def) (counts_each k.Elements gs more) c),
+  sizes_of gs more ss h.1 (each_right (λ n. n ≤ 65536) (counts_in k.Elements f def) (counts_each k.Elements gs more) c),
+)
+
+-- ---- names
+
+abbrev Named : (Def → List (List ℕ)) → List Def → Type 0
+Named names defs = AllByRecursion IsName (flat_map names defs)
+
+named_all : (names : Def → List (List ℕ)) → ((f : Word) (def : Def) → SpellsDef f def → is_built def ≡ true → AllByRecursion IsName (names def))
+    → (fs : List Word) (defs : List Def) → Each SpellsDef fs defs → AreBuilt defs → Named names defs
+named_all names each fs defs Each.none h = tt
+named_all names each fs defs (Each.one {x = f} {y = def} {xs = gs} {ys = more} sx ss) h =
+    each_append IsName (names def) (flat_map names more) (each f def sx h.0) (named_all names each gs more ss h.1)
+
+type_named : (f : Word) (def : Def) → SpellsDef f def → is_built def ≡ true → AllByRecursion IsName (type_name def)
+type_named f def (SpellsDef.struct ok vs sa ss) h = (ok, tt)
+type_named f def (SpellsDef.sum ok vs sa ss) h = (ok, tt)
+type_named f def (SpellsDef.table ok sn ss) h = tt
+type_named f def (SpellsDef.fun ok vs sp sr sb) h = tt
+type_named f def (SpellsDef.entry ok) h = tt
+
+con_named : (f : Word) (def : Def) → SpellsDef f def → is_built def ≡ true → AllByRecursion IsName (con_names def)
+con_named f def (SpellsDef.struct ok vs sa ss) h = tt
+con_named f def (SpellsDef.sum ok vs sa ss) h = absurd (cc)
+con_named f def (SpellsDef.table ok sn ss) h = tt
+con_named f def (SpellsDef.fun ok vs sp sr sb) h = tt
+con_named f def (SpellsDef.entry ok) h = tt
+
+table_named : (f : Word) (def : Def) → SpellsDef f def → is_built def ≡ true → AllByRecursion IsName (table_name def)
+table_named f def (SpellsDef.struct ok vs sa ss) h = tt
+table_named f def (SpellsDef.sum ok vs sa ss) h = tt
+table_named f def (SpellsDef.table ok sn ss) h = (ok, tt)
+table_named f def (SpellsDef.fun ok vs sp sr sb) h = tt
+table_named f def (SpellsDef.entry ok) h = tt
+
+fun_named : (f : Word) (def : Def) → SpellsDef f def → is_built def ≡ true → AllByRecursion IsName (fun_name def)
+fun_named f def (SpellsDef.struct ok vs sa ss) h = tt
+fun_named f def (SpellsDef.sum ok vs sa ss) h = tt
+fun_named f def (SpellsDef.table ok sn ss) h = tt
+fun_named f def (SpellsDef.fun ok vs sp sr sb) h = (ok, tt)
+fun_named f def (SpellsDef.entry ok) h = tt
+
+fields_named : (fs : List Word) (fields : List Field) → Each SpellsField fs fields → AllByRecursion IsName (map (λ (z : Field). z.name) fields)
+fields_named fs fields Each.none = tt
+fields_named fs fields (Each.one {xs = gs} {ys = more} (SpellsField.field ok st) ss) = (ok, fields_named gs more ss)
+
+field_named : (f : Word) (def : Def) → SpellsDef f def → is_built def ≡ true → AllByRecursion IsName (field_names def)
+field_named f def (SpellsDef.struct {f = g} {fs = fs} {a = a} {bs = more} ok vs (SpellsField.field x st) ss) h = (x, fields_named fs more ss)
+field_named f def (SpellsDef.sum ok vs sa ss) h = tt
+field_named f def (SpellsDef.table ok sn ss) h = tt
+field_named f def (SpellsDef.fun ok vs sp sr sb) h = tt
+field_named f def (SpellsDef.entry ok) h = tt
+
+no_vars : (defs : List Def) → AreBuilt defs → flat_map listed_vars defs ≡ []
+no_vars [] h = refl
+no_vars (d.Struct x vars fields ∷ defs) h = rw (nothing_listed vars (and_parts (is_empty vars) (are_fields_built fields) h.0).0) (no_vars defs h.1)
+no_vars (d.Sum x vars cons ∷ defs) h = absurd (cc)
+no_vars (d.Table x i nums ∷ defs) h = no_vars defs h.1
+no_vars (d.Fun x vars params result body ∷ defs) h =
+    let one = and_parts (is_empty vars && are_fields_built params && is_ty_built result) (is_expr_built body) h.0 in
+    let two = and_parts (is_empty vars && are_fields_built params) (is_ty_built result) one.0 in
+    rw (nothing_listed vars (and_parts (is_empty vars) (are_fields_built params) two.0).0) (no_vars defs h.1)
+no_vars (d.Entry x ∷ defs) h = no_vars defs h.1
+
+-- ---- the files
+
+-- there is no rule beyond types yet
+pub is_checked : (file : SourceFile) → IsTypedFile file → IsChecked file
+is_checked file t = record { typed_file = t }
+
+pub is_mono : (file : SourceFile) → IsChecked file → AreBuilt file.defs → IsMono file
+is_mono file c built =
+    let defs = file.defs in
+    let text = c.typed_file.spelled.text in
+    let s : SpellsFile text file = c.typed_file.spelled.spells in
+    let names : (f : Def → List (List ℕ)) → ((w : Word) (def : Def) → SpellsDef w def → is_built def ≡ true → AllByRecursion IsName (f def)) → Named f defs = λ f each. named_all f each s.forms defs s.spelled built in
+    let source : (xs : List (List ℕ)) → AllByRecursion IsName xs → AllByRecursion IsSourceName xs = λ xs h. each_so IsName IsSourceName xs (λ x ok. inl ok) h in
+    record {
+      regular = record {
+        typed = c.typed_file.typed;
+        sizes = sizes_of s.forms defs s.spelled built (elements_within s.forms defs s.limits);
+        slots = each_so (FormIn HasNoSlots) (SlotsIn defs) (pieces_in defs) (slots_in defs) (no_slots text file s);
+      };
+      named = record {
+        types = source (flat_map type_name defs) (names type_name type_named);
+        cons = source (flat_map con_names defs) (names con_names con_named);
+        tables = names table_name table_named;
+        funs = source (flat_map fun_name defs) (names fun_name fun_named);
+        fields = names field_names field_named;
+        vars = bound_named (pieces_in defs) (all_source text file s);
+      };
+      monomorphic = record { vars = no_vars defs built; pieces = each_so InPart ClosedIn (pieces_in defs) closed (all defs built) };
+      cases = no_cases text file s;
+      slots = no_slots text file s;
+    }
+
+pub is_plain : (file : SourceFile) → IsMono file → AreBuilt file.defs → IsPlain file
+is_plain file m built =
+    let n = m.named in
+    record {
+      regular = m.regular;
+      named = record {
+        types = n.types;
+        cons = n.cons;
+        tables = n.tables;
+        funs = n.funs;
+        fields = n.fields;
+        vars = each_so IsName IsVariable (flat_map bound_name (pieces_in file.defs)) (λ x ok. inl ok) n.vars;
+      };
+      monomorphic = m.monomorphic;
+      matches = no_match file.defs built;
+      tests = tests file.defs built;
+      slots = m.slots;
+    }
+
+pub is_hoisted : (file : SourceFile) → IsPlain file → AreBuilt file.defs → IsHoisted file
+is_hoisted file p built = record {
+  listed = record {
+    regular = p.regular;
+    monomorphic = p.monomorphic;
+    matches = p.matches;
+    tests = p.tests;
+    allocs = no_alloc file.defs built;
+  };
+  named = p.named;
+}
+
+-- all of them
+pub has_all_forms : (file : SourceFile) → IsTypedFile file → AreBuilt file.defs → IsHoisted file
+has_all_forms file t built = is_hoisted file (is_plain file (is_mono file (is_checked file t) built) built) built
