@@ -98,8 +98,8 @@ pub(crate) fn number(out: &mut Vec<u8>, width: Width, n: u64) -> Result<(), NoMe
 {
     count(out, n)?;
     match width {
+        Width::W8 | Width::W32 => out.extend_from_slice(b"u"),
         Width::W64 => out.extend_from_slice(b"ull"),
-        _ => out.extend_from_slice(b"u"),
     }
 }
 

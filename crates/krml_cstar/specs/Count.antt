@@ -9,7 +9,10 @@ use Rattle.krml_cstar.specs.Translation.{code_of, params_from}
 -- the parameters, and the variables of the body
 abbrev pub variables_of : List Def → Def → ℕ
 variables_of defs (d.Fun x vars params result body) = ((code_of defs body).run (params_from 0 params) (length params)).next
-variables_of defs _ = 0
+variables_of defs (d.Struct x vars fields) = 0
+variables_of defs (d.Sum x vars cons) = 0
+variables_of defs (d.Table x i nums) = 0
+variables_of defs (d.Entry x) = 0
 
 abbrev pub HaveFewVariables : List Def → Type 0
 HaveFewVariables defs = AllByRecursion (λ def. variables_of defs def ≤ 2 ^ 64) defs

@@ -49,9 +49,12 @@ use Rattle.krml_ctree.specs.Text.{width_type}
 
 abbrev pub ctype_in : Ty-F CType → CType
 ctype_in (Ty-F.Int i) = width_type i.width
+ctype_in Ty-F.Bool = ct.U8
 ctype_in (Ty-F.Buf a) = ct.Ptr a
 ctype_in (Ty-F.Named x args) = ct.Struct x
-ctype_in _ = ct.U8
+-- no values of C have these types
+ctype_in Ty-F.Unit = ct.U8
+ctype_in (Ty-F.Var x) = ct.U8
 
 abbrev pub ctype : Ty → CType
 ctype = fold-Ty CType ctype_in
@@ -114,19 +117,23 @@ value a e names n = record { code = []; value = e; ty = a; next = n }
 -- computed with at width 32 or 64
 abbrev pub widen : Width → CExpr → CExpr
 widen W8 e = c.Cast W32 e
-widen w e = e
+widen W32 e = e
+widen W64 e = e
 
 abbrev pub narrow : Width → CExpr → CExpr
 narrow W8 e = c.Cast W8 e
-narrow w e = e
+narrow W32 e = e
+narrow W64 e = e
 
 abbrev pub work : Width → Width
+work W8 = W32
+work W32 = W32
 work W64 = W64
-work w = W32
 
 abbrev pub literal : Width → ℕ → CExpr
 literal W8 n = c.Cast W8 (c.Lit W32 n)
-literal w n = c.Lit w n
+literal W32 n = c.Lit W32 n
+literal W64 n = c.Lit W64 n
 
 abbrev pub truth : Bool → CExpr
 truth b = literal W8 (if b then 1 else 0)
@@ -251,7 +258,12 @@ field_in None y = ty.Unit
 
 abbrev pub field_type : List Def → List ℕ → Ty-F Ty → Ty
 field_type defs y (Ty-F.Named x args) = field_in (struct_named defs x) y
-field_type defs y _ = ty.Unit
+-- the other types have no fields
+field_type defs y (Ty-F.Int i) = ty.Unit
+field_type defs y Ty-F.Bool = ty.Unit
+field_type defs y Ty-F.Unit = ty.Unit
+field_type defs y (Ty-F.Buf a) = ty.Unit
+field_type defs y (Ty-F.Var x) = ty.Unit
 
 abbrev pub got : List Def → List ℕ → Out → Names → ℕ → Out
 got defs y a names n = value (field_type defs y (out-Ty a.ty)) (c.Field a.value y) names n
@@ -370,7 +382,7 @@ for x a b e names n =
       next = oe.next;
     }
 
--- ---- the table. What is not in it is not built yet, and becomes nothing.
+-- ---- the table
 
 abbrev pub Layer : Type 0
 Layer = Expr-F Comp ItemComp (Unit {0}) (Unit {0})
@@ -393,7 +405,19 @@ code_step defs (Expr-F.Do is a) = block is a
 code_step defs (Expr-F.While t a) = does (while t a)
 code_step defs (Expr-F.For x a b e) = does (for x a b e)
 code_step defs (Expr-F.Call f args es) = call defs f es
-code_step defs _ = does (value ty.Unit nothing)
+-- what is not built yet becomes nothing
+code_step defs (Expr-F.Hide i a) = does (value ty.Unit nothing)
+code_step defs (Expr-F.Con x args es) = does (value ty.Unit nothing)
+code_step defs (Expr-F.Read a i) = does (value ty.Unit nothing)
+code_step defs (Expr-F.Write a i e) = does (value ty.Unit nothing)
+code_step defs (Expr-F.Slice a i n) = does (value ty.Unit nothing)
+code_step defs (Expr-F.Match a arms) = does (value ty.Unit nothing)
+code_step defs (Expr-F.Frame slots a) = does (value ty.Unit nothing)
+code_step defs (Expr-F.Alloc b n a) = does (value ty.Unit nothing)
+code_step defs (Expr-F.Cases cases) = does (value ty.Unit nothing)
+code_step defs (Expr-F.TagIs x a) = does (value ty.Unit nothing)
+code_step defs (Expr-F.Part x j a) = does (value ty.Unit nothing)
+code_step defs (Expr-F.Fill k a) = does (value ty.Unit nothing)
 
 abbrev pub item_step : Item-F Comp ItemComp (Unit {0}) (Unit {0}) → ItemComp
 item_step (Item-F.Let x a e) = bound x a e
@@ -426,15 +450,25 @@ fun_code defs x params result body =
 
 abbrev pub structs_of : Def → List CStruct
 structs_of (d.Struct x vars fields) = record { name = x; fields = map (λ f. record { ty = ctype f.ty; name = f.name }) fields } ∷ []
-structs_of _ = []
+structs_of (d.Table x i nums) = []
+structs_of (d.Fun x vars params result body) = []
+structs_of (d.Entry x) = []
+-- not built yet
+structs_of (d.Sum x vars cons) = []
 
 abbrev pub tables_of : Def → List CTable
 tables_of (d.Table x i nums) = record { name = x; width = i.width; nums = nums } ∷ []
-tables_of _ = []
+tables_of (d.Struct x vars fields) = []
+tables_of (d.Sum x vars cons) = []
+tables_of (d.Fun x vars params result body) = []
+tables_of (d.Entry x) = []
 
 abbrev pub funs_of : List Def → Def → List CFun
 funs_of defs (d.Fun x vars params result body) = fun_code defs x params result body ∷ []
-funs_of defs _ = []
+funs_of defs (d.Struct x vars fields) = []
+funs_of defs (d.Sum x vars cons) = []
+funs_of defs (d.Table x i nums) = []
+funs_of defs (d.Entry x) = []
 
 abbrev pub program_of : SourceFile → CProgram
 program_of file = record {

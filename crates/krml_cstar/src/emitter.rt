@@ -49,13 +49,17 @@ fn gives_nothing(defs: &Names<'_>, e: &Expr) -> bool
         Expr::Var(_) | Expr::Bool(_) | Expr::Num(..) | Expr::Bin(..) => false,
         Expr::Shift(..) | Expr::Cmp(..) | Expr::Not(_) | Expr::Cast(..) => false,
         Expr::Make(..) | Expr::Get(..) | Expr::Tab(..) => false,
+        Expr::Unit | Expr::While(..) | Expr::For(..) => true,
         Expr::If(_, a, _) => gives_nothing(defs, a.get()),
         Expr::Do(_, a) => gives_nothing(defs, a.get()),
         Expr::Call(f, _, _) => match defs.fun_named(f) {
             Some(def) => is_unit(def.result),
             None => true,
         },
-        _ => true,
+        // not built yet
+        Expr::Hide(..) | Expr::Con(..) | Expr::Read(..) | Expr::Write(..) => true,
+        Expr::Slice(..) | Expr::Match(..) | Expr::Frame(..) | Expr::Alloc(..) => true,
+        Expr::Cases(_) | Expr::TagIs(..) | Expr::Part(..) | Expr::Fill(..) => true,
     }
 }
 
@@ -497,6 +501,7 @@ impl<'n, 'a> Emitter<'n, 'a> {
     {
         match e {
             Expr::Var(x) => self.look(x),
+            Expr::Unit => no_value(self.alloc),
             Expr::Bool(b) => boolean(self.alloc, *b),
             Expr::Num(i, n) => number(self.alloc, *i, *n),
             Expr::Bin(op, i, a, b) => {
@@ -573,7 +578,11 @@ impl<'n, 'a> Emitter<'n, 'a> {
                 let values = self.all(es.as_slice());
                 self.call(f, values)
             }
-            _ => no_value(self.alloc),
+            // not built yet
+            Expr::Hide(..) | Expr::Con(..) | Expr::Read(..) => no_value(self.alloc),
+            Expr::Write(..) | Expr::Slice(..) | Expr::Match(..) => no_value(self.alloc),
+            Expr::Frame(..) | Expr::Alloc(..) | Expr::Cases(_) => no_value(self.alloc),
+            Expr::TagIs(..) | Expr::Part(..) | Expr::Fill(..) => no_value(self.alloc),
         }
     }
 

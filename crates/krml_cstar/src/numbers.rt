@@ -18,8 +18,8 @@ pub fn work(w: Width) -> Width
     ensures { result ≡ work w }
 {
     match w {
+        Width::W8 | Width::W32 => Width::W32,
         Width::W64 => Width::W64,
-        _ => Width::W32,
     }
 }
 
@@ -29,7 +29,7 @@ pub fn widen(alloc: Global, w: Width, e: Term) -> Term
 {
     match w {
         Width::W8 => cast(alloc, Width::W32, e),
-        _ => e,
+        Width::W32 | Width::W64 => e,
     }
 }
 
@@ -39,7 +39,7 @@ pub fn narrow(alloc: Global, w: Width, e: Term) -> Term
 {
     match w {
         Width::W8 => cast(alloc, Width::W8, e),
-        _ => e,
+        Width::W32 | Width::W64 => e,
     }
 }
 
@@ -49,7 +49,7 @@ pub fn literal(alloc: Global, w: Width, n: u64) -> Term
 {
     match w {
         Width::W8 => cast(alloc, Width::W8, lit(alloc, Width::W32, n)),
-        _ => lit(alloc, w, n),
+        Width::W32 | Width::W64 => lit(alloc, w, n),
     }
 }
 
@@ -74,8 +74,8 @@ fn highest(w: Width) -> u64
     ensures { result ≡ bits (work w) - 1 }
 {
     match w {
+        Width::W8 | Width::W32 => 31,
         Width::W64 => 63,
-        _ => 31,
     }
 }
 

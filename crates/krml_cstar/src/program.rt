@@ -187,7 +187,9 @@ fn add<'a>(
             let fun = function(alloc, defs, name, params.as_slice(), result, body)?;
             program.funs.push(fun)
         }
-        _ => Ok(()),
+        Def::Entry { .. } => Ok(()),
+        // not built yet
+        Def::Sum { .. } => Ok(()),
     }
 }
 

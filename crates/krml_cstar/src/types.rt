@@ -39,7 +39,7 @@ pub fn ctype(alloc: Global, a: &Ty) -> Result<CType, NoMemory>
             Ok(CType::Ptr(Box::new(alloc, b)?))
         }
         Ty::Named(x, _) => Ok(CType::Struct(x.copy(alloc)?)),
-        _ => Ok(CType::U8),
+        Ty::Bool | Ty::Unit | Ty::Var(_) => Ok(CType::U8),
     }
 }
 

@@ -52,8 +52,9 @@ width_word W64 = codes "uint64_t"
 
 -- a number, with the suffix of its width
 abbrev pub number : Width → ℕ → List ℕ
+number W8 n = decimal n ++ codes "u"
+number W32 n = decimal n ++ codes "u"
 number W64 n = decimal n ++ codes "ull"
-number _ n = decimal n ++ codes "u"
 
 abbrev pub bin_symbol : CBin → List ℕ
 bin_symbol Add = codes "+"

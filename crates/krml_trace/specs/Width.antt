@@ -12,6 +12,11 @@ bits W64 = 64
 -- whether two widths are the same
 abbrev pub same_width : Width → Width → Bool
 same_width W8 W8 = true
+same_width W8 W32 = false
+same_width W8 W64 = false
+same_width W32 W8 = false
 same_width W32 W32 = true
+same_width W32 W64 = false
+same_width W64 W8 = false
+same_width W64 W32 = false
 same_width W64 W64 = true
-same_width _ _ = false
