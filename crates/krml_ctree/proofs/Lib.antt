@@ -9,4 +9,5 @@ pub mod Names
 pub mod Parse
 pub mod Spelled
 pub mod Unique
+mod WellFormedExamples
 pub mod Written
