@@ -4,6 +4,7 @@ use Rattle.std.specs.Prelude.{◌≡◌, ℕ, ◌<◌, ◌≤◌, ◌^◌, List,
 use Rattle.std.specs.List.{AllByRecursion, IsDistinct, flat_map}
 use Rattle.std.specs.Str.{bytes_eq}
 use Rattle.std.specs.Fmt.{decimal}
+use Rattle.krml_trace.specs.Limits.{max_elements}
 use Rattle.krml_syntax.specs.declared.tree.IntTy.{IntTy}
 use Rattle.krml_syntax.specs.declared.tree.Ty.{Ty, out-Ty}
 use Rattle.krml_syntax.specs.declared.tree.Ty.TheOpen.{Ty-F}
@@ -38,7 +39,7 @@ IsBetween least most n = (least ≤ n) × (n ≤ most)
 abbrev pub HasSize : Def → Type 0
 HasSize (d.Struct x vars fields) = 1 ≤ length fields
 HasSize (d.Sum x vars cons) = IsBetween 1 256 (length cons)
-HasSize (d.Table x i nums) = IsBetween 1 65536 (length nums)
+HasSize (d.Table x i nums) = IsBetween 1 max_elements (length nums)
 HasSize (d.Fun x vars params result body) = Unit {0}
 HasSize (d.Entry x) = Unit {0}
 
@@ -46,7 +47,7 @@ HasSize (d.Entry x) = Unit {0}
 pub record IsSlot (defs : List Def) (s : Slot) : Type 0 where
   pub typed : IsType defs [] s.ty
   pub flat : IsFlat defs s.ty
-  pub size : IsBetween 1 65536 s.len
+  pub size : IsBetween 1 max_elements s.len
 
 abbrev pub HasSlots : List Def → Form → Type 0
 HasSlots defs (Expr-F.Frame slots a) = AllByRecursion (IsSlot defs) slots

@@ -3,6 +3,7 @@ use Rattle.std.specs.Prelude.{◌≡◌, ℕ, ◌≤◌, Bool, true, false, List
 use Rattle.std.specs.List.{Contains, IsDistinct, AllByRecursion, flat_map}
 use Rattle.std.specs.Str.{bytes_eq}
 use Rattle.krml_trace.specs.declared.width.Width.{Width}
+use Rattle.krml_trace.specs.Limits.{max_elements}
 use Rattle.krml_ctree.specs.declared.tree.CType.{CType}
 use Rattle.krml_ctree.specs.declared.tree.CType.TheVariants as t
 use Rattle.krml_ctree.specs.declared.tree.CBin.{CBin}
@@ -110,7 +111,7 @@ module _ (p : CProgram) where
   pub record ArrayFits (a : CArray) : Type 0 where
     pub plain : HoldsNoPointer p.structs a.ty
     pub some : 1 ≤ a.len
-    pub most : a.len ≤ 65536
+    pub most : a.len ≤ max_elements
 
   -- ---- statements
 
@@ -202,7 +203,7 @@ StructsFit earlier (s ∷ structs) = StructFits earlier s × StructsFit (s ∷ e
 -- A table has 1 to 65,536 numbers.
 pub record TableFits (t : CTable) : Type 0 where
   pub some : 1 ≤ length t.nums
-  pub most : length t.nums ≤ 65536
+  pub most : length t.nums ≤ max_elements
 
 -- A program is well formed.
 pub record WellFormed (p : CProgram) : Type 0 where
