@@ -1,5 +1,5 @@
 -- Bundling keeps what a file means: each run under the new names is the run under the old ones, with new names in its events.
-use Rattle.std.proofs.Common.{◌≡◌, ℕ, zero, suc, Bool, true, false, if◌then◌else◌, List, [], ◌∷◌, ◌++◌, map, reverse, take, length, Option, Some, None, IsSome, option_map, option_and_then, refl, sym, ap, ◌∙◌, subst}
+use Rattle.std.proofs.Common.{◌≡◌, ℕ, zero, suc, Bool, true, false, if◌then◌else◌, List, [], ◌∷◌, ◌++◌, map, reverse, take, length, Option, Some, None, IfSome, IsSome, option_map, option_and_then, refl, sym, ap, ◌∙◌, subst}
 use Rattle.std.proofs.lemmas.List.{map-append, length-map, reverse-append}
 use Rattle.krml_trace.specs.declared.width.Width.{Width}
 use Rattle.krml_trace.specs.declared.argument.Arg.{Arg}
@@ -9,6 +9,8 @@ use Rattle.krml_trace.specs.declared.bound.Bound.{Bound}
 use Rattle.krml_trace.specs.declared.why.Why.TheVariants.{Undefined}
 use Rattle.krml_trace.specs.Width.{same_width}
 use Rattle.krml_trace.specs.Run.{Goes, Ends}
+use Rattle.krml_trace.specs.Host as host
+use Rattle.krml_trace.specs.Host.{Plain, pass, pass_all}
 use Rattle.krml_trace.proofs.Levels.{within_both}
 use Rattle.krml_syntax.specs.declared.tree.IntTy.{IntTy}
 use Rattle.krml_syntax.specs.declared.tree.Ty.{Ty, out-Ty}
@@ -54,17 +56,24 @@ enter_same defs = within_both SameCalls (src.body_of defs) (src.body_of (map def
 -- ---- arguments
 
 abbrev pub passed_bundled : src.Passed → src.Passed
-passed_bundled p = record { vars = vars_bundled p.vars; memory = map block_bundled p.memory; events = map event_bundled p.events }
+passed_bundled p = record { given = vars_bundled p.given; memory = map block_bundled p.memory; events = map event_bundled p.events }
 
-with_value_bundled : (x : List ℕ) (a a' : Value) (p : src.Passed) → value_bundled a ≡ a' → src.with_value x a' (passed_bundled p) ≡ passed_bundled (src.with_value x a p)
-with_value_bundled x a a' p h = ap (λ z. src.with_value x z (passed_bundled p)) (sym h)
+-- No name of the file stands in an argument: it is passed under the new names as it is.
+abbrev Stays : src.Passing → Type 0
+Stays k = (p : src.Passed) → pass (passed_bundled p) k ≡ passed_bundled (pass p k)
+
+abbrev AllStay : List src.Passing → Type 0
+AllStay ks = (p : src.Passed) → pass_all (passed_bundled p) ks ≡ passed_bundled (pass_all p ks)
+
+value_stays : (x : List ℕ) (a : Value) → value_bundled a ≡ a → Stays (Plain (x, a))
+value_stays x a h p = ap (λ z. pass (passed_bundled p) (Plain (x, z))) (sym h)
 
 numbers_bundled : (i : IntTy) (nums : List ℕ) → map value_bundled (map (λ n. v.Num i.width n) nums) ≡ map (λ n. v.Num i.width n) nums
 numbers_bundled i [] = refl
 numbers_bundled i (n ∷ nums) = rw (is.num_value i.width n, numbers_bundled i nums) refl
 
-with_buffer_bundled : (x : List ℕ) (i : IntTy) (nums : List ℕ) (p : src.Passed) → src.with_buffer x i nums (passed_bundled p) ≡ passed_bundled (src.with_buffer x i nums p)
-with_buffer_bundled x i nums p =
+buffer_stays : (x : List ℕ) (i : IntTy) (nums : List ℕ) → Stays (src.buffer x i nums)
+buffer_stays x i nums p =
     let block : Block = record { elem = t.Int i; len = length nums; live = true; items = map (λ n. v.Num i.width n) nums } in
     rw (
       map-append block_bundled p.memory (block ∷ []),
@@ -74,68 +83,98 @@ with_buffer_bundled x i nums p =
       numbers_bundled i nums,
     ) refl
 
-where_same_bundled : (w w' : Width) (p p' : src.Passed) → p' ≡ passed_bundled p → src.where_same w w' p' ≡ option_map passed_bundled (src.where_same w w' p)
-where_same_bundled w w' p p' h = go (same_width w w')
+same_stays : (w w' : Width) (k : src.Passing) → Stays k → IfSome (src.where_same w w' k) Stays
+same_stays w w' k h = go (same_width w w')
   where
-    go : (b : Bool) → (if b then Some p' else None) ≡ option_map passed_bundled (if b then Some p else None)
-    go true = ap Some h
-    go false = refl
+    go : (b : Bool) → IfSome (if b then Some k else None) Stays
+    go true = h
+    go false = tt
 
-pass_buffer_bundled : (x : List ℕ) (w : Width) (nums : List ℕ) (p : src.Passed) (o : Ty-F Ty)
-    → src.pass_buffer x w nums (is.ty_under o) (passed_bundled p) ≡ option_map passed_bundled (src.pass_buffer x w nums o p)
-pass_buffer_bundled x w nums p Ty-F.Bool = refl
-pass_buffer_bundled x w nums p Ty-F.Unit = refl
-pass_buffer_bundled x w nums p (Ty-F.Int i) = where_same_bundled w i.width (src.with_buffer x i nums p) _ (with_buffer_bundled x i nums p)
-pass_buffer_bundled x w nums p (Ty-F.Buf a) = refl
-pass_buffer_bundled x w nums p (Ty-F.Var y) = refl
-pass_buffer_bundled x w nums p (Ty-F.Named y args) = refl
+buffer_for_stays : (x : List ℕ) (w : Width) (nums : List ℕ) (o : Ty-F Ty) → IfSome (src.buffer_for x w nums o) Stays
+buffer_for_stays x w nums (Ty-F.Int i) = same_stays w i.width (src.buffer x i nums) (buffer_stays x i nums)
+buffer_for_stays x w nums Ty-F.Bool = tt
+buffer_for_stays x w nums Ty-F.Unit = tt
+buffer_for_stays x w nums (Ty-F.Buf a) = tt
+buffer_for_stays x w nums (Ty-F.Var y) = tt
+buffer_for_stays x w nums (Ty-F.Named y args) = tt
 
-pass_under : (x : List ℕ) (a : Arg) (p : src.Passed) (o : Ty-F Ty) → src.pass x a (is.ty_under o) (passed_bundled p) ≡ option_map passed_bundled (src.pass x a o p)
-pass_under x (arg.Bool b) p Ty-F.Bool = ap Some (with_value_bundled x (v.Bool b) _ p (is.bool_value b))
-pass_under x (arg.Bool b) p Ty-F.Unit = refl
-pass_under x (arg.Bool b) p (Ty-F.Int i) = refl
-pass_under x (arg.Bool b) p (Ty-F.Buf c) = refl
-pass_under x (arg.Bool b) p (Ty-F.Var y) = refl
-pass_under x (arg.Bool b) p (Ty-F.Named y args) = refl
-pass_under x (arg.Num w n) p Ty-F.Bool = refl
-pass_under x (arg.Num w n) p Ty-F.Unit = refl
-pass_under x (arg.Num w n) p (Ty-F.Int i) = where_same_bundled w i.width (src.with_value x (v.Num w n) p) _ (with_value_bundled x (v.Num w n) _ p (is.num_value w n))
-pass_under x (arg.Num w n) p (Ty-F.Buf c) = refl
-pass_under x (arg.Num w n) p (Ty-F.Var y) = refl
-pass_under x (arg.Num w n) p (Ty-F.Named y args) = refl
-pass_under x (arg.Buf w nums) p Ty-F.Bool = refl
-pass_under x (arg.Buf w nums) p Ty-F.Unit = refl
-pass_under x (arg.Buf w nums) p (Ty-F.Int i) = refl
-pass_under x (arg.Buf w nums) p (Ty-F.Buf c) = ap (λ z. src.pass_buffer x w nums z (passed_bundled p)) (is.out_ty_bundled c) ∙ pass_buffer_bundled x w nums p (out-Ty c)
-pass_under x (arg.Buf w nums) p (Ty-F.Var y) = refl
-pass_under x (arg.Buf w nums) p (Ty-F.Named y args) = refl
+passing_stays : (x : List ℕ) (a : Arg) (o : Ty-F Ty) → IfSome (src.passing x a o) Stays
+passing_stays x (arg.Bool b) Ty-F.Bool = value_stays x (v.Bool b) (is.bool_value b)
+passing_stays x (arg.Num w n) (Ty-F.Int i) = same_stays w i.width (Plain (x, v.Num w n)) (value_stays x (v.Num w n) (is.num_value w n))
+passing_stays x (arg.Buf w nums) (Ty-F.Buf a) = buffer_for_stays x w nums (out-Ty a)
+passing_stays x (arg.Bool b) Ty-F.Unit = tt
+passing_stays x (arg.Bool b) (Ty-F.Int i) = tt
+passing_stays x (arg.Bool b) (Ty-F.Buf a) = tt
+passing_stays x (arg.Bool b) (Ty-F.Var y) = tt
+passing_stays x (arg.Bool b) (Ty-F.Named y args) = tt
+passing_stays x (arg.Num w n) Ty-F.Bool = tt
+passing_stays x (arg.Num w n) Ty-F.Unit = tt
+passing_stays x (arg.Num w n) (Ty-F.Buf a) = tt
+passing_stays x (arg.Num w n) (Ty-F.Var y) = tt
+passing_stays x (arg.Num w n) (Ty-F.Named y args) = tt
+passing_stays x (arg.Buf w nums) Ty-F.Bool = tt
+passing_stays x (arg.Buf w nums) Ty-F.Unit = tt
+passing_stays x (arg.Buf w nums) (Ty-F.Int i) = tt
+passing_stays x (arg.Buf w nums) (Ty-F.Var y) = tt
+passing_stays x (arg.Buf w nums) (Ty-F.Named y args) = tt
 
-pass_all_bundled : (params : List Field) (args : List Arg) (p : src.Passed)
-    → src.pass_all (map param_bundled params) args (passed_bundled p) ≡ option_map passed_bundled (src.pass_all params args p)
-pass_all_bundled [] [] p = refl
-pass_all_bundled [] (a ∷ args) p = refl
-pass_all_bundled (f ∷ params) [] p = refl
-pass_all_bundled (f ∷ params) (a ∷ args) p =
-    ap (λ z. option_and_then (src.pass_all (map param_bundled params) args) z) (ap (λ z. src.pass f.name a z (passed_bundled p)) (is.out_ty_bundled f.ty) ∙ pass_under f.name a p (out-Ty f.ty))
-    ∙ go (pass_all_bundled params args) (src.pass f.name a (out-Ty f.ty) p)
+passings_stay : (params : List Field) (args : List Arg) → IfSome (src.passings params args) AllStay
+passings_stay [] [] = λ p. refl
+passings_stay [] (a ∷ args) = tt
+passings_stay (f ∷ params) [] = tt
+passings_stay (f ∷ params) (a ∷ args) = go (src.passing f.name a (out-Ty f.ty)) (src.passings params args) (passing_stays f.name a (out-Ty f.ty)) (passings_stay params args)
   where
-    go : ((q : src.Passed) → src.pass_all (map param_bundled params) args (passed_bundled q) ≡ option_map passed_bundled (src.pass_all params args q)) → (o : Option src.Passed)
-        → option_and_then (src.pass_all (map param_bundled params) args) (option_map passed_bundled o) ≡ option_map passed_bundled (option_and_then (src.pass_all params args) o)
-    go h (Some q) = h q
-    go h None = refl
+    go : (o : Option src.Passing) (os : Option (List src.Passing)) → IfSome o Stays → IfSome os AllStay → IfSome (option_and_then (λ k. option_map (λ ks. k ∷ ks) os) o) AllStay
+    go (Some k) (Some ks) h hs = λ p. ap (λ z. pass_all z ks) (h p) ∙ hs (pass p k)
+    go (Some k) None h hs = tt
+    go None os h hs = tt
+
+-- and an argument fits the type under the new names where it fits the type
+buffer_for_same : (x : List ℕ) (w : Width) (nums : List ℕ) (o : Ty-F Ty) → src.buffer_for x w nums (is.ty_under o) ≡ src.buffer_for x w nums o
+buffer_for_same x w nums Ty-F.Bool = refl
+buffer_for_same x w nums Ty-F.Unit = refl
+buffer_for_same x w nums (Ty-F.Int i) = refl
+buffer_for_same x w nums (Ty-F.Buf a) = refl
+buffer_for_same x w nums (Ty-F.Var y) = refl
+buffer_for_same x w nums (Ty-F.Named y args) = refl
+
+passing_same : (x : List ℕ) (a : Arg) (o : Ty-F Ty) → src.passing x a (is.ty_under o) ≡ src.passing x a o
+passing_same x (arg.Bool b) Ty-F.Bool = refl
+passing_same x (arg.Bool b) Ty-F.Unit = refl
+passing_same x (arg.Bool b) (Ty-F.Int i) = refl
+passing_same x (arg.Bool b) (Ty-F.Buf a) = refl
+passing_same x (arg.Bool b) (Ty-F.Var y) = refl
+passing_same x (arg.Bool b) (Ty-F.Named y args) = refl
+passing_same x (arg.Num w n) Ty-F.Bool = refl
+passing_same x (arg.Num w n) Ty-F.Unit = refl
+passing_same x (arg.Num w n) (Ty-F.Int i) = refl
+passing_same x (arg.Num w n) (Ty-F.Buf a) = refl
+passing_same x (arg.Num w n) (Ty-F.Var y) = refl
+passing_same x (arg.Num w n) (Ty-F.Named y args) = refl
+passing_same x (arg.Buf w nums) Ty-F.Bool = refl
+passing_same x (arg.Buf w nums) Ty-F.Unit = refl
+passing_same x (arg.Buf w nums) (Ty-F.Int i) = refl
+passing_same x (arg.Buf w nums) (Ty-F.Buf a) = ap (λ z. src.buffer_for x w nums z) (is.out_ty_bundled a) ∙ buffer_for_same x w nums (out-Ty a)
+passing_same x (arg.Buf w nums) (Ty-F.Var y) = refl
+passing_same x (arg.Buf w nums) (Ty-F.Named y args) = refl
+
+passings_same : (params : List Field) (args : List Arg) → src.passings (map param_bundled params) args ≡ src.passings params args
+passings_same [] [] = refl
+passings_same [] (a ∷ args) = refl
+passings_same (f ∷ params) [] = refl
+passings_same (f ∷ params) (a ∷ args) = rw (is.out_ty_bundled f.ty, passing_same f.name a (out-Ty f.ty), passings_same params args) refl
 
 -- what a run begins with, under the new names
 abbrev pub start_image : src.Start → src.Start
 start_image b = record { function = function_bundled b.function; passed = passed_bundled b.passed }
 
 start_of_bundled : (args : List Arg) (f : src.Function) → src.start_of args (function_bundled f) ≡ option_map start_image (src.start_of args f)
-start_of_bundled args f = ap (option_map (λ p. record { function = function_bundled f; passed = p })) (pass_all_bundled f.params args (record { vars = []; memory = []; events = [] }))
-    ∙ go (src.pass_all f.params args (record { vars = []; memory = []; events = [] }))
+start_of_bundled args f = rw (passings_same f.params args) (go (src.passings f.params args) (passings_stay f.params args))
   where
-    go : (o : Option src.Passed) → option_map (λ p. record { function = function_bundled f; passed = p }) (option_map passed_bundled o)
-        ≡ option_map start_image (option_map (λ p. record { function = f; passed = p }) o)
-    go (Some p) = refl
-    go None = refl
+    go : (o : Option (List src.Passing)) → IfSome o AllStay → option_map (λ ks. record { function = function_bundled f; passed = host.passed ks }) o
+        ≡ option_map start_image (option_map (λ ks. record { function = f; passed = host.passed ks }) o)
+    go (Some ks) h = ap (λ (z : src.Passed). Some (record { function = function_bundled f; passed = z })) (h host.nothing)
+    go None h = refl
 
 start_bundled : (file : SourceFile) (entry : List ℕ) (args : List Arg) → src.start (bundled file) (emitted_fun entry) args ≡ option_map start_image (src.start file entry args)
 start_bundled file entry args = rw (has_entry_bundled file.defs entry, function_named_bundled file.defs entry) (go (src.has_entry file.defs entry) (src.function_named file.defs entry))
@@ -160,11 +199,11 @@ scalar_bundled x = ap src.scalar_in (is.out_bundled x) ∙ go (out-Value x)
     go (Value-F.Con k xs) = refl
     go (Value-F.Buf b off len) = refl
 
-scalars_bundled : (xs : List Value) → map (λ x. src.number_or_zero (src.scalar_in (out-Value x))) (map value_bundled xs) ≡ map (λ x. src.number_or_zero (src.scalar_in (out-Value x))) xs
+scalars_bundled : (xs : List Value) → map (λ x. src.scalar_in (out-Value x)) (map value_bundled xs) ≡ map (λ x. src.scalar_in (out-Value x)) xs
 scalars_bundled [] = refl
 scalars_bundled (x ∷ xs) = rw (scalar_bundled x, scalars_bundled xs) refl
 
-buffers_bundled : (n : ℕ) (m : List Block) → map src.contents (take n (map block_bundled m)) ≡ map src.contents (take n m)
+buffers_bundled : (n : ℕ) (m : List Block) → map (host.contents src.seen) (take n (map block_bundled m)) ≡ map (host.contents src.seen) (take n m)
 buffers_bundled zero m = refl
 buffers_bundled (suc n) [] = refl
 buffers_bundled (suc n) (b ∷ m) = rw (scalars_bundled b.items, buffers_bundled n m) refl
@@ -174,24 +213,28 @@ events_bundled [] = refl
 events_bundled (e ∷ es) = reverse-append (event_bundled e ∷ []) (map event_bundled es) ∙ ap (λ z. z ++ event_bundled e ∷ []) (events_bundled es)
     ∙ sym (map-append event_bundled (reverse es) (e ∷ [])) ∙ ap (map event_bundled) (sym (reverse-append (e ∷ []) es))
 
-run_of_bundled : (buffers : ℕ) (r : SourceRan Value) → src.run_of buffers (ran_bundled value_bundled r) ≡ run_bundled (src.run_of buffers r)
+run_of_bundled : (buffers : ℕ) (r : SourceRan Value) → host.run_of src.seen buffers (ran_bundled value_bundled r) ≡ run_bundled (host.run_of src.seen buffers r)
 run_of_bundled buffers (Goes x s) = rw (scalar_bundled x, buffers_bundled buffers s.memory, events_bundled s.events) refl
 run_of_bundled buffers (Ends w es) = rw (events_bundled es) refl
 
 -- ---- runs
 
-run_from_bundled : (file : SourceFile) (bound : Bound) (b : src.Start) → src.run_from (bundled file) bound (start_image b) ≡ ran_bundled value_bundled (src.run_from file bound b)
+run_from_bundled : (file : SourceFile) (bound : Bound) (b : src.Start)
+    → host.run_from (src.called_by_host (bundled file)) bound (start_image b) ≡ ran_bundled value_bundled (host.run_from (src.called_by_host file) bound b)
 run_from_bundled file bound b =
     ((expr_same file.defs (src.enter file.defs bound.depth) (src.enter (map def_bundled file.defs) bound.depth) (enter_same file.defs bound.depth) b.function.body).from 0).run
-    (src.env_of b.function [] b.passed.vars) (record { ticks = bound.ticks; memory = b.passed.memory; events = b.passed.events })
+    (src.env_of b.function [] b.passed.given) (host.begin bound b.passed)
 
-started_bundled : (file : SourceFile) (bound : Bound) (o : Option src.Start) → src.run_started (bundled file) bound (option_map start_image o) ≡ run_bundled (src.run_started file bound o)
-started_bundled file bound (Some b) = rw (run_from_bundled file bound b, length-map b.passed.memory block_bundled) (run_of_bundled (length b.passed.memory) (src.run_from file bound b))
+started_bundled : (file : SourceFile) (bound : Bound) (o : Option src.Start)
+    → host.run_started src.seen (src.called_by_host (bundled file)) bound (option_map start_image o) ≡ run_bundled (host.run_started src.seen (src.called_by_host file) bound o)
+started_bundled file bound (Some b) =
+    rw (run_from_bundled file bound b, length-map b.passed.memory block_bundled) (run_of_bundled (length b.passed.memory) (host.run_from (src.called_by_host file) bound b))
 started_bundled file bound None = refl
 
 -- Each run of a bundled file, at the new name of an entry, is the run of the file under the new names.
 pub runs_bundled : (file : SourceFile) → RunsAsBundled file (bundled file)
-runs_bundled file entry args bound = ap (src.run_started (bundled file) bound) (start_bundled file entry args.items) ∙ started_bundled file bound (src.start file entry args.items)
+runs_bundled file entry args bound =
+    ap (host.run_started src.seen (src.called_by_host (bundled file)) bound) (start_bundled file entry args.items) ∙ started_bundled file bound (src.start file entry args.items)
 
 -- Arguments that fit an entry fit it under its new name.
 pub fits_bundled : (file : SourceFile) (entry : List ℕ) (args : Arguments) → src.ArgumentsFit file entry args → src.ArgumentsFit (bundled file) (emitted_fun entry) args

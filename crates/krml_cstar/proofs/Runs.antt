@@ -11,6 +11,8 @@ use Rattle.krml_trace.specs.declared.outcome.Outcome.TheVariants as outcome
 use Rattle.krml_trace.specs.declared.why.Why.TheVariants.{Spent, Deep, Stuck, Undefined, Trapped}
 use Rattle.krml_trace.specs.Run.{Goes, Ends, outcome_of, events_of, NotStuck}
 use Rattle.krml_trace.specs.After.{After}
+use Rattle.krml_trace.specs.Host as host
+use Rattle.krml_trace.specs.Host.{done, run_started}
 use Rattle.krml_syntax.specs.declared.tree.IntTy.{IntTy}
 use Rattle.krml_syntax.specs.declared.tree.Ty.{Ty}
 use Rattle.krml_syntax.specs.declared.tree.Ty.TheVariants as t
@@ -59,7 +61,7 @@ use Rattle.krml_cstar.proofs.Events.{events_in_order}
 use Rattle.krml_cstar.proofs.Found.{lookups}
 use Rattle.krml_cstar.proofs.Levels.{BodiesFit, calls_sound, enter_fits}
 use Rattle.krml_cstar.proofs.Simulation.{bodies_fit}
-use Rattle.krml_cstar.proofs.Arguments.{all_passed, passed_is}
+use Rattle.krml_cstar.proofs.Arguments.{AllPassed, all_passed, passed_is}
 
 -- ---- results
 
@@ -107,7 +109,7 @@ module _ (defs : List Def) (m : List Block) (x : Value) where
 
 -- a run of C that does what a run of the source does ends as that does, with its events
 same_run : (defs : List Def) (m : List Block) (a : Ty) (r : SourceRan Value) (r' : CRan (Option CValue)) → IsAnswer a → After (Fine defs m (erased a)) r → Sim defs (Gave defs a) r r'
-    → NotStuck (outcome_of (src.done 0) r) → (outcome_of (tgt.done 0) r' ≡ outcome_of (src.done 0) r) × (events_of r' ≡ image_c defs (events_of r))
+    → NotStuck (outcome_of (done src.seen 0) r) → (outcome_of (done tgt.seen 0) r' ≡ outcome_of (done src.seen 0) r) × (events_of r' ≡ image_c defs (events_of r))
 same_run defs m a (Goes x s) r' ans f h not =
     rw h.is (ap (λ z. outcome.Done z []) (same_scalar defs s.memory x a h.to ans f.shape h.holds.value), events_in_order defs s.events)
 same_run defs m a (Ends Spent es) r' ans f h not = rw h (refl, events_in_order defs es)
@@ -154,14 +156,15 @@ first_is defs x (d.Entry name ∷ ds) f fun e q ans = first_is defs x ds f fun e
 
 -- the run of a start, as a call of its function
 source_is : (file : SourceFile) (entry : List ℕ) (bound : Bound) (b : src.Start) (xs : List Value) → src.function_named file.defs entry ≡ Some b.function
-    → src.params_over b.function.params xs [] ≡ Some b.passed.vars → b.passed.memory ≡ [] → b.passed.events ≡ []
-    → src.run_from file bound b ≡ src.enter file.defs (suc bound.depth) (record { name = entry; types = []; values = xs }) (record { ticks = bound.ticks; memory = []; events = [] })
+    → src.params_over b.function.params xs [] ≡ Some b.passed.given → b.passed.memory ≡ [] → b.passed.events ≡ []
+    → host.run_from (src.called_by_host file) bound b
+    ≡ src.enter file.defs (suc bound.depth) (record { name = entry; types = []; values = xs }) (record { ticks = bound.ticks; memory = []; events = [] })
 source_is file entry bound b xs e q m es = rw (e, q, m, es) refl
 
 target_is : (p : CProgram) (entry : List ℕ) (args : Arguments) (bound : Bound) (g : CFun) (us : List CValue) → tgt.first_named p.funs entry ≡ Some g
-    → tgt.passed args.items ≡ record { values = reverse us; memory = []; events = [] } → tgt.fit [] g.params us ≡ true
+    → tgt.passed args.items ≡ record { given = reverse us; memory = []; events = [] } → tgt.fit [] g.params us ≡ true
     → tgt.c_run p entry args bound ≡ record {
-      outcome = outcome_of (tgt.done 0) (tgt.enter p (suc bound.depth) (record { fun = g; values = us }) (record { ticks = bound.ticks; memory = []; events = [] }));
+      outcome = outcome_of (done tgt.seen 0) (tgt.enter p (suc bound.depth) (record { fun = g; values = us }) (record { ticks = bound.ticks; memory = []; events = [] }));
       events = events_of (tgt.enter p (suc bound.depth) (record { fun = g; values = us }) (record { ticks = bound.ticks; memory = []; events = [] }));
     }
 target_is p entry args bound g us e q f = rw (e, q, reverse-reverse us, f) (rw (reverse-reverse us) refl)
@@ -170,7 +173,8 @@ module _ (file : SourceFile) (typed : AreWellTyped file.defs) (built : AreBuilt 
   -- both ends of a run of a start
   module _ (entry : List ℕ) (args : Arguments) (bound : Bound) (b : src.Start) (st : Started file.defs entry args.items b) (k : EntryTyped file.defs entry) where
     abbrev Same : Option src.Start → CRun → Type 0
-    Same o q = NotStuck (src.run_started file bound o).outcome → (q.outcome ≡ (src.run_started file bound o).outcome) × (q.events ≡ image_c file.defs (src.run_started file bound o).events)
+    Same o q = NotStuck (run_started src.seen (src.called_by_host file) bound o).outcome
+        → (q.outcome ≡ (run_started src.seen (src.called_by_host file) bound o).outcome) × (q.events ≡ image_c file.defs (run_started src.seen (src.called_by_host file) bound o).events)
 
     started_same : Same (Some b) (tgt.c_run (program_of file) entry args bound)
     started_same =
@@ -182,10 +186,9 @@ module _ (file : SourceFile) (typed : AreWellTyped file.defs) (built : AreBuilt 
         let fb : FunctionBuilt f fun.body = function_built defs typed built entry f fun k.is st.function in
         let same : fn.body ≡ fun = same_answer (src.function_named defs entry) fn.body fun fn.is st.function in
         let params : fun.params ≡ f.params = ap (λ (z : src.Function). z.params) (sym same) ∙ fn.params in
-        let nothing : src.Passed = record { vars = []; memory = []; events = [] } in
-        let passes : src.pass_all f.params args.items nothing ≡ Some b.passed = ap (λ ps. src.pass_all ps args.items nothing) (sym params) ∙ st.passed in
-        let all = all_passed defs f.params args.items nothing b.passed args.fit fb.types passes in
-        let vars : src.params_over fun.params all.values [] ≡ Some b.passed.vars = ap (λ ps. src.params_over ps all.values []) params ∙ all.vars_are in
+        let passes : src.passings f.params args.items ≡ Some st.args = ap (λ ps. src.passings ps args.items) (sym params) ∙ st.passing in
+        let all = subst (AllPassed defs f.params args.items host.nothing) st.passed (all_passed defs f.params args.items host.nothing st.args args.fit fb.types passes) in
+        let vars : src.params_over fun.params all.values [] ≡ Some b.passed.given = ap (λ ps. src.params_over ps all.values []) params ∙ all.given in
         let us : List CValue = images_at defs all.values (param_types f.params) in
         let s : SourceState = record { ticks = bound.ticks; memory = []; events = [] } in
         let r = src.enter defs (suc bound.depth) (record { name = entry; types = []; values = all.values }) s in
@@ -197,12 +200,12 @@ module _ (file : SourceFile) (typed : AreWellTyped file.defs) (built : AreBuilt 
         let sound : After (Fine defs [] (erased f.result)) r = subst (λ z. After (Fine defs [] z) r) result
         (calls_sound defs typed built p (lookups file typed) few fits (suc bound.depth) entry f [] all.values s k.is (ap (λ z. length z) (sym k.vars)) AreArguments.none
         (subst (AllHaveShape defs [] all.values) types all.shapes) tt) in
-        let source : src.run_from file bound b ≡ r = source_is file entry bound b all.values st.function vars all.memory all.events in
+        let source : host.run_from (src.called_by_host file) bound b ≡ r = source_is file entry bound b all.values st.function vars all.memory all.events in
         let buffers : length b.passed.memory ≡ 0 = ap (λ z. length z) all.memory in
         let first : tgt.first_named p.funs entry ≡ Some g = first_is defs entry defs f fun k.is st.function k.answer in
-        let begun = passed_is defs f.params args.items nothing b.passed all in
+        let begun = passed_is defs f.params args.items host.nothing b.passed all in
         let fit = arguments_fit defs built [] all.values 0 f.params all.shapes fb.types fb.values in
-        let target : tgt.c_run p entry args bound ≡ record { outcome = outcome_of (tgt.done 0) r'; events = events_of r' } = target_is p entry args bound g us first begun fit in
+        let target : tgt.c_run p entry args bound ≡ record { outcome = outcome_of (done tgt.seen 0) r'; events = events_of r' } = target_is p entry args bound g us first begun fit in
         rw (source, buffers, target) (same_run defs [] f.result r r' k.answer sound sim)
 
   runs_alike : DoesTheSame file (program_of file)

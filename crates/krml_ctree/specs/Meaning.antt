@@ -2,7 +2,7 @@
 -- An expression is pure: it has a value among the variables in scope, or none. A statement means a step from these and a
 -- state to those in scope then. Each form has one combinator on the meanings of its parts. What is not defined here is
 -- Undefined from the place where it is met. The clauses cited are of ISO/IEC 9899:2011.
-use Rattle.std.specs.Prelude.{ℕ, suc, ◌+◌, ◌-◌, ◌*◌, ◌/◌, ◌%◌, ◌^◌, ◌==◌, Bool, true, false, not, ◌&&◌, if◌then◌else◌, nat_lt, nat_le, bit_and, bit_or, bit_xor, List, [], ◌∷◌, ◌++◌, map, length, take, reverse, replicate, Option, Some, None, IsSome, option_map, option_and_then, unwrap_or, slice_get}
+use Rattle.std.specs.Prelude.{ℕ, suc, ◌+◌, ◌-◌, ◌*◌, ◌/◌, ◌%◌, ◌^◌, ◌==◌, Bool, true, false, not, ◌&&◌, if◌then◌else◌, nat_lt, nat_le, bit_and, bit_or, bit_xor, List, [], ◌∷◌, ◌++◌, map, length, reverse, replicate, Option, Some, None, option_map, option_and_then, slice_get}
 use Rattle.std.specs.Str.{bytes_eq}
 use Rattle.krml_trace.specs.declared.width.Width.{Width}
 use Rattle.krml_trace.specs.declared.width.Width.TheVariants.{W8, W32, W64}
@@ -10,15 +10,14 @@ use Rattle.krml_trace.specs.declared.argument.Arg.{Arg}
 use Rattle.krml_trace.specs.declared.argument.Arg.TheVariants as arg
 use Rattle.krml_trace.specs.declared.arguments.Arguments.{Arguments}
 use Rattle.krml_trace.specs.declared.bound.Bound.{Bound}
-use Rattle.krml_trace.specs.declared.outcome.Outcome.{Outcome}
-use Rattle.krml_trace.specs.declared.outcome.Outcome.TheVariants as outcome
 use Rattle.krml_trace.specs.declared.why.Why.TheVariants.{Undefined}
 use Rattle.krml_trace.specs.Width.{bits, same_width}
 use Rattle.krml_trace.specs.Argument.{fits_width}
-use Rattle.krml_trace.specs.Run.{Goes, bind, leave, ends, with_some, check, tick, outcome_of, events_of}
+use Rattle.krml_trace.specs.Run.{Goes, bind, leave, ends, with_some, check, tick}
 use Rattle.krml_trace.specs.Loop.{Turn, Again, Over, loop}
 use Rattle.krml_trace.specs.Levels.{within}
 use Rattle.krml_trace.specs.Blocks.{close_blocks}
+use Rattle.krml_trace.specs.Host as host
 use Rattle.krml_ctree.specs.declared.event.CEvent.{CEvent}
 use Rattle.krml_ctree.specs.declared.event.CEvent.TheVariants as event
 use Rattle.krml_ctree.specs.declared.event.CSlot.{CSlot}
@@ -380,65 +379,58 @@ abbrev pub first_named : List CFun → List ℕ → Option CFun
 first_named [] x = None
 first_named (f ∷ funs) x = if bytes_eq f.name x && gives_scalar f.result then Some f else first_named funs x
 
--- What arguments come to: the values of the parameters, the last one first, the blocks, and their events, the newest first.
-pub record Passed : Type 0 where
-  pub values : List CValue
-  pub memory : List CBlock
-  pub events : List CEvent
+-- What an argument is: a value, and for a buffer, whose value is the pointer to its first element, a block and an event.
+abbrev pub Passing : Type 0
+Passing = host.Passing CEvent CValue CBlock
 
-abbrev pub pass : Passed → Arg → Passed
-pass p (arg.Bool b) = record p { values = v.Num W8 (if b then 1 else 0) ∷ p.values }
-pass p (arg.Num w n) = record p { values = v.Num w n ∷ p.values }
-pass p (arg.Buf w nums) = record {
-  values = v.Ptr (length p.memory) 0 ∷ p.values;
-  memory = p.memory ++ record { elem = width_type w; live = true; items = map (λ n. Some (v.Num w n)) nums } ∷ [];
-  events = event.Arg (length p.memory) (width_type w) (length nums) ∷ p.events;
-}
+abbrev pub Passed : Type 0
+Passed = host.Passed CEvent CValue CBlock
 
-abbrev pub pass_all : Passed → List Arg → Passed
-pass_all p [] = p
-pass_all p (a ∷ args) = pass_all (pass p a) args
+abbrev pub passing : Arg → Passing
+passing (arg.Bool b) = host.Plain (v.Num W8 (if b then 1 else 0))
+passing (arg.Num w n) = host.Plain (v.Num w n)
+passing (arg.Buf w nums) = host.Buffer (λ n. v.Ptr n 0)
+    (record { elem = width_type w; live = true; items = map (λ n. Some (v.Num w n)) nums })
+    (λ n. event.Arg n (width_type w) (length nums))
 
 abbrev pub passed : List Arg → Passed
-passed args = pass_all (record { values = []; memory = []; events = [] }) args
+passed args = host.passed (map passing args)
 
 -- The arguments fit a function: each has the type of its parameter, truth values that of 8 bits, and buffers are pointers.
 abbrev pub passes_to : CFun → Passed → Bool
-passes_to f p = fit p.memory f.params (reverse p.values)
+passes_to f p = fit p.memory f.params (reverse p.given)
 
--- The function that a run is of, where the arguments fit it.
-abbrev pub start : CProgram → List ℕ → List Arg → Option CFun
-start p x args = option_and_then (λ f. where_true (passes_to f (passed args)) f) (first_named p.funs x)
+-- What a run begins with: a function, and what its arguments come to.
+abbrev pub Start : Type 0
+Start = host.Start CEvent CValue CBlock CFun
+
+abbrev pub start_of : Passed → CFun → Option Start
+start_of q f = where_true (passes_to f q) (record { function = f; passed = q })
+
+-- The start of a function's run, where the arguments fit it.
+abbrev pub start : CProgram → List ℕ → List Arg → Option Start
+start p x args = option_and_then (start_of (passed args)) (first_named p.funs x)
+
+-- A program, as a host calls it.
+abbrev pub called_by_host : CProgram → host.Program CEvent CValue CBlock CFun (Option CValue)
+called_by_host p = record { start = start p; enter = λ depth b s. body_of p (enter p depth) (record { fun = b.function; values = reverse b.passed.given }) s }
 
 -- The arguments fit a function of the program.
 abbrev pub ArgumentsFit : CProgram → List ℕ → Arguments → Type 0
-ArgumentsFit p x args = IsSome (start p x args.items)
+ArgumentsFit p x args = host.ArgumentsFit (called_by_host p) x args
 
 abbrev pub scalar_of : CValue → Option ℕ
 scalar_of x = option_map (λ p. p.1) (as_number x)
 
--- the numbers of a block
-abbrev pub number_or_zero : Option CValue → ℕ
-number_or_zero None = 0
-number_or_zero (Some x) = unwrap_or (scalar_of x) 0
-
-abbrev pub contents : CBlock → List ℕ
-contents b = map number_or_zero b.items
-
--- A run that went to its end is done with its result, and the first so many blocks, which are the arguments'.
-abbrev pub done : ℕ → Option CValue → CState → Outcome
-done buffers x s = outcome.Done (option_and_then scalar_of x) (map contents (take buffers s.memory))
-
-abbrev pub run_from : CProgram → Bound → Passed → CFun → CRun
-run_from p bound q f =
-    let r : CRan (Option CValue) = body_of p (enter p bound.depth) (record { fun = f; values = reverse q.values }) (record { ticks = bound.ticks; memory = q.memory; events = q.events }) in
-    record { outcome = outcome_of (done (length q.memory)) r; events = events_of r }
-
-abbrev pub run_started : CProgram → Bound → Passed → Option CFun → CRun
-run_started p bound q (Some f) = run_from p bound q f
-run_started p bound q None = record { outcome = outcome.Undefined; events = [] }
+-- What a host sees of values, blocks and runs.
+abbrev pub seen : host.Seen CEvent CBlock (Option CValue) CRun
+seen = record {
+  scalar = λ x. option_and_then scalar_of x;
+  numbers = λ b. map (option_and_then scalar_of) b.items;
+  run = λ o es. record { outcome = o; events = es };
+}
 
 -- The run of a function on arguments under a bound. Where there is no such function, or the arguments do not fit it, the
 -- run is Undefined and has no events.
 abbrev pub c_run : CProgram → List ℕ → Arguments → Bound → CRun
-c_run p x args bound = run_started p bound (passed args.items) (start p x args.items)
+c_run p x args bound = host.run seen (called_by_host p) x args bound

@@ -14,6 +14,8 @@ use Rattle.krml_trace.specs.declared.why.Why.TheVariants.{Spent, Deep, Stuck, Un
 use Rattle.krml_trace.specs.Argument.{fits, fits_width}
 use Rattle.krml_trace.specs.Width.{bits, same_width}
 use Rattle.krml_trace.specs.Run.{Goes, Ends, outcome_of}
+use Rattle.krml_trace.specs.Host as host
+use Rattle.krml_trace.specs.Host.{Plain, pass, pass_all, begin, done, run_from, run_started}
 use Rattle.krml_syntax.specs.declared.tree.IntTy.{IntTy}
 use Rattle.krml_syntax.specs.declared.tree.Ty.{Ty, out-Ty}
 use Rattle.krml_syntax.specs.declared.tree.Ty.TheVariants as t
@@ -32,7 +34,7 @@ use Rattle.krml_meaning.specs.declared.value.Value.{Value, out-Value}
 use Rattle.krml_meaning.specs.declared.value.Value.TheOpen.{Value-F}
 use Rattle.krml_meaning.specs.declared.value.Value.TheVariants as v
 use Rattle.krml_meaning.specs.State.{Block, SourceState, SourceRan}
-use Rattle.krml_meaning.specs.Meaning.{Function, Passed, Start, with_value, with_buffer, pass_buffer, pass, pass_all, params_over, start_of, start, has_entry, function_named, scalar_in, done, enter, eval, env_of, run_from, run_started, ArgumentsFit}
+use Rattle.krml_meaning.specs.Meaning.{Function, Passing, Passed, Start, buffer, buffer_for, passing, passings, params_over, start_of, start, has_entry, function_named, called_by_host, scalar_in, seen, enter, eval, env_of, ArgumentsFit}
 use Rattle.krml_meaning.specs.Shape.{number_ty, HasShape, AllHaveShape, BlockTyped, MemoryTyped, Extends}
 use Rattle.krml_trace.specs.After.{After}
 use Rattle.krml_meaning.specs.Sound.{Fine, CanRun, EndsWith, RunsWell, TypedFilesRun}
@@ -58,12 +60,26 @@ width_is W32 W64 e = absurd (cc)
 width_is W64 W8 e = absurd (cc)
 width_is W64 W32 e = absurd (cc)
 
+-- where there is a first argument and there are more
+pub record OneMore {K : Type 0} (o : Option K) (os : Option (List K)) (ks : List K) : Type 0 where
+  pub first : K
+  pub rest : List K
+  pub one : o ≡ Some first
+  pub more : os ≡ Some rest
+  pub all : first ∷ rest ≡ ks
+
+pub one_more : {K : Type 0} (o : Option K) (os : Option (List K)) (ks : List K) → option_and_then (λ k. option_map (λ rest. k ∷ rest) os) o ≡ Some ks → OneMore o os ks
+one_more (Some k) (Some rest) ks e = record { first = k; rest = rest; one = refl; more = refl; all = same_some (k ∷ rest) ks e }
+one_more (Some k) None ks e = absurd (no_some ks e)
+one_more None os ks e = absurd (no_some ks e)
+
 module _ (defs : List Def) (vars : List (List ℕ)) where
   -- ---- an argument for a parameter of a type
 
+  -- where an argument, as it is passed, leads from what came before
   pub record PassedOne (x : List ℕ) (a : Ty) (p q : Passed) : Type 0 where
     pub value : Value
-    pub vars_are : q.vars ≡ (x, value) ∷ p.vars
+    pub given : q.given ≡ (x, value) ∷ p.given
     pub shape : HasShape defs q.memory value (at vars [] a)
     pub extends : Extends p.memory q.memory
     pub memory : MemoryTyped defs q.memory
@@ -77,10 +93,10 @@ module _ (defs : List Def) (vars : List (List ℕ)) where
   closed_buf : (i : IntTy) → at vars [] (t.Buf (t.Int i)) ≡ t.Buf (int_ty i)
   closed_buf i = ap erased (at_buf vars [] (t.Int i)) ∙ erased_buf (type_at vars [] (t.Int i)) ∙ ap (λ z. t.Buf z) (closed_int i)
 
-  value_passed : (x : List ℕ) (a : Ty) (y : Value) (p q : Passed) → MemoryTyped defs p.memory → ((m : List Block) → HasShape defs m y (at vars [] a)) → Some (with_value x y p) ≡ Some q
-      → PassedOne x a p q
-  value_passed x a y p q hm h e = subst (PassedOne x a p) (same_some (with_value x y p) q e)
-      (record { value = y; vars_are = refl; shape = h p.memory; extends = extends_same p.memory; memory = hm })
+  value_passed : (x : List ℕ) (a : Ty) (y : Value) (p : Passed) (k : Passing) → MemoryTyped defs p.memory → ((m : List Block) → HasShape defs m y (at vars [] a)) → Some (Plain (x, y)) ≡ Some k
+      → PassedOne x a p (pass p k)
+  value_passed x a y p k hm h e = subst (λ z. PassedOne x a p (pass p z)) (same_some (Plain (x, y)) k e)
+      (record { value = y; given = refl; shape = h p.memory; extends = extends_same p.memory; memory = hm })
 
   items_typed : (i : IntTy) (nums : List ℕ) → list_all (fits_width i.width) nums ≡ true → AllByRecursion (λ x. HasShape defs [] x (erased (t.Int i))) (map (λ n. v.Num i.width n) nums)
   items_typed i [] h = tt
@@ -92,7 +108,7 @@ module _ (defs : List Def) (vars : List (List ℕ)) where
   arg_block i nums = record { elem = t.Int i; len = length nums; live = true; items = map (λ n. v.Num i.width n) nums }
 
   buffer_passed : (x : List ℕ) (i : IntTy) (nums : List ℕ) (p : Passed) → MemoryTyped defs p.memory → list_all (fits_width i.width) nums ≡ true
-      → PassedOne x (t.Buf (t.Int i)) p (with_buffer x i nums p)
+      → PassedOne x (t.Buf (t.Int i)) p (pass p (buffer x i nums))
   unfolding arg_block
   buffer_passed x i nums p hm fit =
       let b = arg_block i nums in
@@ -103,7 +119,7 @@ module _ (defs : List Def) (vars : List (List ℕ)) where
       let full : length b.items ≡ length nums = map_length (λ k. v.Num i.width k) nums in
       record {
         value = v.Buf n 0 (length nums);
-        vars_are = refl;
+        given = refl;
         shape = subst (HasShape defs late (v.Buf n 0 (length nums))) (sym (closed_buf i))
             (HasShape.buf (record { is_open = record { block = b; there = there; elem = erased_int i; size = refl; live = refl }; full = full }) (omega arith));
         extends = push_extends p.memory (b ∷ []);
@@ -111,91 +127,89 @@ module _ (defs : List Def) (vars : List (List ℕ)) where
             (record { flat = record { value = rw (t.outs-Int i) refl; flat = none_int defs i }; few = omega (arith, full); items = items_typed i nums fit }, tt);
       }
 
-  num_passed : (x : List ℕ) (w : Width) (n : ℕ) (i : IntTy) (p q : Passed) → MemoryTyped defs p.memory → n < 2 ^ bits w → (b : Bool) → same_width w i.width ≡ b
-      → (if b then Some (with_value x (v.Num w n) p) else None) ≡ Some q → PassedOne x (t.Int i) p q
-  num_passed x w n i p q hm lt true s e =
-      value_passed x (t.Int i) (v.Num w n) p q hm
+  num_passed : (x : List ℕ) (w : Width) (n : ℕ) (i : IntTy) (p : Passed) (k : Passing) → MemoryTyped defs p.memory → n < 2 ^ bits w → (b : Bool) → same_width w i.width ≡ b
+      → (if b then Some (Plain (x, v.Num w n)) else None) ≡ Some k → PassedOne x (t.Int i) p (pass p k)
+  num_passed x w n i p k hm lt true s e =
+      value_passed x (t.Int i) (v.Num w n) p k hm
       (λ m. subst (HasShape defs m (v.Num w n)) (ap number_ty (width_is w i.width s) ∙ sym (closed_int i)) (HasShape.num lt)) e
-  num_passed x w n i p q hm lt false s e = absurd (no_some q e)
+  num_passed x w n i p k hm lt false s e = absurd (no_some k e)
 
-  nums_passed : (x : List ℕ) (w : Width) (nums : List ℕ) (i : IntTy) (p q : Passed) → MemoryTyped defs p.memory → list_all (fits_width w) nums ≡ true → (b : Bool)
-      → same_width w i.width ≡ b → (if b then Some (with_buffer x i nums p) else None) ≡ Some q → PassedOne x (t.Buf (t.Int i)) p q
-  nums_passed x w nums i p q hm fit true s e =
-      subst (PassedOne x (t.Buf (t.Int i)) p) (same_some (with_buffer x i nums p) q e)
+  nums_passed : (x : List ℕ) (w : Width) (nums : List ℕ) (i : IntTy) (p : Passed) (k : Passing) → MemoryTyped defs p.memory → list_all (fits_width w) nums ≡ true → (b : Bool)
+      → same_width w i.width ≡ b → (if b then Some (buffer x i nums) else None) ≡ Some k → PassedOne x (t.Buf (t.Int i)) p (pass p k)
+  nums_passed x w nums i p k hm fit true s e =
+      subst (λ z. PassedOne x (t.Buf (t.Int i)) p (pass p z)) (same_some (buffer x i nums) k e)
       (buffer_passed x i nums p hm (subst (λ z. list_all (fits_width z) nums ≡ true) (width_is w i.width s) fit))
-  nums_passed x w nums i p q hm fit false s e = absurd (no_some q e)
+  nums_passed x w nums i p k hm fit false s e = absurd (no_some k e)
 
-  module _ (x : List ℕ) (p q : Passed) (hm : MemoryTyped defs p.memory) where
-    to_bool : (a : Arg) → pass x a Ty-F.Bool p ≡ Some q → PassedOne x t.Bool p q
-    to_bool (arg.Bool b) e = value_passed x t.Bool (v.Bool b) p q hm (λ m. subst (HasShape defs m (v.Bool b)) (sym closed_bool) HasShape.bool) e
-    to_bool (arg.Num w n) e = absurd (no_some q e)
-    to_bool (arg.Buf w nums) e = absurd (no_some q e)
+  module _ (x : List ℕ) (p : Passed) (k : Passing) (hm : MemoryTyped defs p.memory) where
+    to_bool : (a : Arg) → passing x a Ty-F.Bool ≡ Some k → PassedOne x t.Bool p (pass p k)
+    to_bool (arg.Bool b) e = value_passed x t.Bool (v.Bool b) p k hm (λ m. subst (HasShape defs m (v.Bool b)) (sym closed_bool) HasShape.bool) e
+    to_bool (arg.Num w n) e = absurd (no_some k e)
+    to_bool (arg.Buf w nums) e = absurd (no_some k e)
 
-    to_int : (i : IntTy) (a : Arg) → fits a ≡ true → pass x a (Ty-F.Int i) p ≡ Some q → PassedOne x (t.Int i) p q
-    to_int i (arg.Num w n) fit e = num_passed x w n i p q hm (ltb-true n (2 ^ bits w) fit) (same_width w i.width) refl e
-    to_int i (arg.Bool b) fit e = absurd (no_some q e)
-    to_int i (arg.Buf w nums) fit e = absurd (no_some q e)
+    to_int : (i : IntTy) (a : Arg) → fits a ≡ true → passing x a (Ty-F.Int i) ≡ Some k → PassedOne x (t.Int i) p (pass p k)
+    to_int i (arg.Num w n) fit e = num_passed x w n i p k hm (ltb-true n (2 ^ bits w) fit) (same_width w i.width) refl e
+    to_int i (arg.Bool b) fit e = absurd (no_some k e)
+    to_int i (arg.Buf w nums) fit e = absurd (no_some k e)
 
-    nums_to : (w : Width) (nums : List ℕ) → list_all (fits_width w) nums ≡ true → (b : Ty) → pass_buffer x w nums (out-Ty b) p ≡ Some q → PassedOne x (t.Buf b) p q
-    nums_to w nums fit = by_form (λ b. pass_buffer x w nums (out-Ty b) p ≡ Some q → PassedOne x (t.Buf b) p q)
-        (λ e. absurd (no_some q (sym (ap (λ o. pass_buffer x w nums o p) t.outs-Bool) ∙ e)))
-        (λ e. absurd (no_some q (sym (ap (λ o. pass_buffer x w nums o p) t.outs-Unit) ∙ e)))
-        (λ i e. nums_passed x w nums i p q hm fit (same_width w i.width) refl (sym (ap (λ o. pass_buffer x w nums o p) (t.outs-Int i)) ∙ e))
-        (λ a e. absurd (no_some q (sym (ap (λ o. pass_buffer x w nums o p) (t.outs-Buf a)) ∙ e)))
-        (λ y e. absurd (no_some q (sym (ap (λ o. pass_buffer x w nums o p) (t.outs-Var y)) ∙ e)))
-        (λ y args e. absurd (no_some q (sym (ap (λ o. pass_buffer x w nums o p) (t.outs-Named y args)) ∙ e)))
+    nums_to : (w : Width) (nums : List ℕ) → list_all (fits_width w) nums ≡ true → (b : Ty) → buffer_for x w nums (out-Ty b) ≡ Some k → PassedOne x (t.Buf b) p (pass p k)
+    nums_to w nums fit = by_form (λ b. buffer_for x w nums (out-Ty b) ≡ Some k → PassedOne x (t.Buf b) p (pass p k))
+        (λ e. absurd (no_some k (sym (ap (λ o. buffer_for x w nums o) t.outs-Bool) ∙ e)))
+        (λ e. absurd (no_some k (sym (ap (λ o. buffer_for x w nums o) t.outs-Unit) ∙ e)))
+        (λ i e. nums_passed x w nums i p k hm fit (same_width w i.width) refl (sym (ap (λ o. buffer_for x w nums o) (t.outs-Int i)) ∙ e))
+        (λ a e. absurd (no_some k (sym (ap (λ o. buffer_for x w nums o) (t.outs-Buf a)) ∙ e)))
+        (λ y e. absurd (no_some k (sym (ap (λ o. buffer_for x w nums o) (t.outs-Var y)) ∙ e)))
+        (λ y args e. absurd (no_some k (sym (ap (λ o. buffer_for x w nums o) (t.outs-Named y args)) ∙ e)))
 
-    to_buf : (b : Ty) (a : Arg) → fits a ≡ true → pass x a (Ty-F.Buf b) p ≡ Some q → PassedOne x (t.Buf b) p q
+    to_buf : (b : Ty) (a : Arg) → fits a ≡ true → passing x a (Ty-F.Buf b) ≡ Some k → PassedOne x (t.Buf b) p (pass p k)
     to_buf b (arg.Buf w nums) fit e = nums_to w nums fit b e
-    to_buf b (arg.Bool c) fit e = absurd (no_some q e)
-    to_buf b (arg.Num w n) fit e = absurd (no_some q e)
+    to_buf b (arg.Bool c) fit e = absurd (no_some k e)
+    to_buf b (arg.Num w n) fit e = absurd (no_some k e)
 
-    to_none : (o : Ty-F Ty) (a : Arg) → ((b : Bool) → pass x (arg.Bool b) o p ≡ None) → ((w : Width) (n : ℕ) → pass x (arg.Num w n) o p ≡ None)
-        → ((w : Width) (nums : List ℕ) → pass x (arg.Buf w nums) o p ≡ None) → pass x a o p ≡ Some q → ⊥
-    to_none o (arg.Bool b) k l m e = no_some q (sym (k b) ∙ e)
-    to_none o (arg.Num w n) k l m e = no_some q (sym (l w n) ∙ e)
-    to_none o (arg.Buf w nums) k l m e = no_some q (sym (m w nums) ∙ e)
+    to_none : (o : Ty-F Ty) (a : Arg) → ((b : Bool) → passing x (arg.Bool b) o ≡ None) → ((w : Width) (n : ℕ) → passing x (arg.Num w n) o ≡ None)
+        → ((w : Width) (nums : List ℕ) → passing x (arg.Buf w nums) o ≡ None) → passing x a o ≡ Some k → ⊥
+    to_none o (arg.Bool b) f g h e = no_some k (sym (f b) ∙ e)
+    to_none o (arg.Num w n) f g h e = no_some k (sym (g w n) ∙ e)
+    to_none o (arg.Buf w nums) f g h e = no_some k (sym (h w nums) ∙ e)
 
-    pub one_passed : (a : Arg) → fits a ≡ true → (b : Ty) → pass x a (out-Ty b) p ≡ Some q → PassedOne x b p q
-    one_passed a fit = by_form (λ b. pass x a (out-Ty b) p ≡ Some q → PassedOne x b p q)
-        (λ e. to_bool a (sym (ap (λ o. pass x a o p) t.outs-Bool) ∙ e))
-        (λ e. absurd (to_none Ty-F.Unit a (λ c. refl) (λ w n. refl) (λ w nums. refl) (sym (ap (λ o. pass x a o p) t.outs-Unit) ∙ e)))
-        (λ i e. to_int i a fit (sym (ap (λ o. pass x a o p) (t.outs-Int i)) ∙ e))
-        (λ b e. to_buf b a fit (sym (ap (λ o. pass x a o p) (t.outs-Buf b)) ∙ e))
-        (λ y e. absurd (to_none (Ty-F.Var y) a (λ c. refl) (λ w n. refl) (λ w nums. refl) (sym (ap (λ o. pass x a o p) (t.outs-Var y)) ∙ e)))
-        (λ y args e. absurd (to_none (Ty-F.Named y args) a (λ c. refl) (λ w n. refl) (λ w nums. refl) (sym (ap (λ o. pass x a o p) (t.outs-Named y args)) ∙ e)))
+    pub one_passed : (a : Arg) → fits a ≡ true → (b : Ty) → passing x a (out-Ty b) ≡ Some k → PassedOne x b p (pass p k)
+    one_passed a fit = by_form (λ b. passing x a (out-Ty b) ≡ Some k → PassedOne x b p (pass p k))
+        (λ e. to_bool a (sym (ap (λ o. passing x a o) t.outs-Bool) ∙ e))
+        (λ e. absurd (to_none Ty-F.Unit a (λ c. refl) (λ w n. refl) (λ w nums. refl) (sym (ap (λ o. passing x a o) t.outs-Unit) ∙ e)))
+        (λ i e. to_int i a fit (sym (ap (λ o. passing x a o) (t.outs-Int i)) ∙ e))
+        (λ b e. to_buf b a fit (sym (ap (λ o. passing x a o) (t.outs-Buf b)) ∙ e))
+        (λ y e. absurd (to_none (Ty-F.Var y) a (λ c. refl) (λ w n. refl) (λ w nums. refl) (sym (ap (λ o. passing x a o) (t.outs-Var y)) ∙ e)))
+        (λ y args e. absurd (to_none (Ty-F.Named y args) a (λ c. refl) (λ w n. refl) (λ w nums. refl) (sym (ap (λ o. passing x a o) (t.outs-Named y args)) ∙ e)))
 
   -- ---- all of them
 
   pub record PassedAll (params : List Field) (p q : Passed) : Type 0 where
     pub values : List Value
-    pub vars_are : params_over params values p.vars ≡ Some q.vars
+    pub given : params_over params values p.given ≡ Some q.given
     pub shapes : AllHaveShape defs q.memory values (fields_at vars [] params)
     pub extends : Extends p.memory q.memory
     pub memory : MemoryTyped defs q.memory
 
-  pub then_is : (params : List Field) (args : List Arg) (o : Option Passed) (q : Passed) → option_and_then (pass_all params args) o ≡ Some q
-      → (p : Passed) × (o ≡ Some p) × (pass_all params args p ≡ Some q)
-  then_is params args (Some p) q e = (p, refl, e)
-  then_is params args None q e = absurd (no_some q e)
-
-  pub all_passed : (params : List Field) (args : List Arg) (p q : Passed) → list_all fits args ≡ true → MemoryTyped defs p.memory → pass_all params args p ≡ Some q → PassedAll params p q
-  all_passed [] [] p q fit hm e = subst (PassedAll [] p) (same_some p q e)
-      (record { values = []; vars_are = refl; shapes = AllHaveShape.none; extends = extends_same p.memory; memory = hm })
-  all_passed [] (a ∷ args) p q fit hm e = absurd (no_some q e)
-  all_passed (f ∷ params) [] p q fit hm e = absurd (no_some q e)
-  all_passed (f ∷ params) (a ∷ args) p q fit hm e =
+  pub all_passed : (params : List Field) (args : List Arg) (p : Passed) (ks : List Passing) → list_all fits args ≡ true → MemoryTyped defs p.memory → passings params args ≡ Some ks
+      → PassedAll params p (pass_all p ks)
+  all_passed [] [] p ks fit hm e = subst (λ z. PassedAll [] p (pass_all p z)) (same_some [] ks e)
+      (record { values = []; given = refl; shapes = AllHaveShape.none; extends = extends_same p.memory; memory = hm })
+  all_passed [] (a ∷ args) p ks fit hm e = absurd (no_some ks e)
+  all_passed (f ∷ params) [] p ks fit hm e = absurd (no_some ks e)
+  all_passed (f ∷ params) (a ∷ args) p ks fit hm e =
       let both = and_parts (fits a) (list_all fits args) fit in
-      let k = then_is params args (pass f.name a (out-Ty f.ty) p) q e in
-      let first = one_passed f.name p k.0 hm a both.0 f.ty k.1 in
-      let rest = all_passed params args k.0 q both.1 first.memory k.2 in
-      record {
+      let k = one_more (passing f.name a (out-Ty f.ty)) (passings params args) ks e in
+      let first = one_passed f.name p k.first hm a both.0 f.ty k.one in
+      let late : Passed = pass p k.first in
+      let rest = all_passed params args late k.rest both.1 first.memory k.more in
+      let q : Passed = pass_all late k.rest in
+      subst (λ z. PassedAll (f ∷ params) p (pass_all p z)) k.all (record {
         values = first.value ∷ rest.values;
-        vars_are = ap (params_over params rest.values) (sym first.vars_are) ∙ rest.vars_are;
-        shapes = AllHaveShape.one (shape_on defs k.0.memory q.memory first.value (at vars [] f.ty) rest.extends first.shape) rest.shapes;
-        extends = extends_then p.memory k.0.memory q.memory first.extends rest.extends;
+        given = ap (params_over params rest.values) (sym first.given) ∙ rest.given;
+        shapes = AllHaveShape.one (shape_on defs late.memory q.memory first.value (at vars [] f.ty) rest.extends first.shape) rest.shapes;
+        extends = extends_then p.memory late.memory q.memory first.extends rest.extends;
         memory = rest.memory;
-      }
+      })
 
 -- ---- entries
 
@@ -274,7 +288,7 @@ module _ (defs : List Def) (vars : List (List ℕ)) (m : List Block) where
       ((λ e. rw (t.outs-Int i) refl), (λ k. scalar_of_int (public i) (out-Value y) s))
 
 ends_with : (defs : List Def) (vars : List (List ℕ)) (m : List Block) (a : Ty) (buffers : ℕ) (r : SourceRan Value) → IsAnswer a → After (Fine defs m (at vars [] a)) r
-    → EndsWith a (outcome_of (done buffers) r)
+    → EndsWith a (outcome_of (done seen buffers) r)
 ends_with defs vars m a buffers (Goes y s) ans h = result_is defs vars s.memory y a ans h.shape
 ends_with defs vars m a buffers (Ends Spent es) ans h = tt
 ends_with defs vars m a buffers (Ends Deep es) ans h = tt
@@ -288,19 +302,25 @@ ends_with defs vars m a buffers (Ends Trapped es) ans h = h
 pub record Started (defs : List Def) (entry : List ℕ) (items : List Arg) (b : Start) : Type 0 where
   pub named : has_entry defs entry ≡ true
   pub function : function_named defs entry ≡ Some b.function
-  pub passed : pass_all b.function.params items (record { vars = []; memory = []; events = [] }) ≡ Some b.passed
+  pub args : List Passing
+  pub passing : passings b.function.params items ≡ Some args
+  pub passed : host.passed args ≡ b.passed
 
-of_function : (items : List Arg) (f : Function) (b : Start) → start_of items f ≡ Some b
-    → (b.function ≡ f) × (pass_all f.params items (record { vars = []; memory = []; events = [] }) ≡ Some b.passed)
-of_function items f b e = go (pass_all f.params items (record { vars = []; memory = []; events = [] })) refl e
+-- what the arguments of a function's start are
+record Passes (items : List Arg) (f : Function) (b : Start) : Type 0 where
+  same : f ≡ b.function
+  args : List Passing
+  passing : passings f.params items ≡ Some args
+  passed : host.passed args ≡ b.passed
+
+of_function : (items : List Arg) (f : Function) (b : Start) → start_of items f ≡ Some b → Passes items f b
+of_function items f b e = go (passings f.params items) refl e
   where
-    go : (o : Option Passed) → pass_all f.params items (record { vars = []; memory = []; events = [] }) ≡ o
-        → option_map (λ (p : Passed). record { function = f; passed = p }) o ≡ Some b
-        → (b.function ≡ f) × (pass_all f.params items (record { vars = []; memory = []; events = [] }) ≡ Some b.passed)
+    go : (o : Option (List Passing)) → passings f.params items ≡ o → option_map (λ (ks : List Passing). record { function = f; passed = host.passed ks }) o ≡ Some b → Passes items f b
     go None q e' = absurd (no_some b e')
-    go (Some p) q e' =
-        let same : record { function = f; passed = p } ≡ b = same_some (record { function = f; passed = p }) b e' in
-        (sym (ap (λ (z : Start). z.function) same), q ∙ ap (λ (z : Start). Some z.passed) same)
+    go (Some ks) q e' =
+        let same : record { function = f; passed = host.passed ks } ≡ b = same_some (record { function = f; passed = host.passed ks }) b e' in
+        record { same = ap (λ (z : Start). z.function) same; args = ks; passing = q; passed = ap (λ (z : Start). z.passed) same }
 
 pub started : (file : SourceFile) (entry : List ℕ) (items : List Arg) (b : Start) → start file entry items ≡ Some b → Started file.defs entry items b
 started file entry items b e = go (has_entry file.defs entry) refl (function_named file.defs entry) refl e
@@ -311,8 +331,10 @@ started file entry items b e = go (has_entry file.defs entry) refl (function_nam
         let k = of_function items f b e' in
         record {
           named = p;
-          function = q ∙ ap Some (sym k.0);
-          passed = ap (λ (z : Function). pass_all z.params items (record { vars = []; memory = []; events = [] })) k.0 ∙ k.1;
+          function = q ∙ ap Some k.same;
+          args = k.args;
+          passing = ap (λ (z : Function). passings z.params items) (sym k.same) ∙ k.passing;
+          passed = k.passed;
         }
     go true p None q e' = absurd (no_some b e')
     go false p o q e' = absurd (no_some b e')
@@ -325,28 +347,27 @@ some_there None h = absurd (cc)
 
 module _ (file : SourceFile) (typed : AreWellTyped file.defs) (can : EachForm (CanRun file.defs) file.defs) where
   started_run : (entry : List ℕ) (args : Arguments) (bound : Bound) (b : Start) → Started file.defs entry args.items b → (k : EntryTyped file.defs entry)
-      → EndsWith k.function.result (outcome_of (done (length b.passed.memory)) (run_from file bound b))
+      → EndsWith k.function.result (outcome_of (done seen (length b.passed.memory)) (run_from (called_by_host file) bound b))
   started_run entry args bound b st k =
       let f = k.function in
       let fs = facts file.defs typed in
       let fun = fs.function entry f k.is in
       let same : fun.body ≡ b.function = same_answer (function_named file.defs entry) fun.body b.function fun.is st.function in
       let params : b.function.params ≡ f.params = sym (ap (λ (z : Function). z.params) same) ∙ fun.params in
-      let nothing : Passed = record { vars = []; memory = []; events = [] } in
-      let passed : pass_all f.params args.items nothing ≡ Some b.passed = ap (λ ps. pass_all ps args.items nothing) (sym params) ∙ st.passed in
-      let all = all_passed file.defs f.vars f.params args.items nothing b.passed args.fit tt passed in
+      let passing : passings f.params args.items ≡ Some st.args = ap (λ ps. passings ps args.items) (sym params) ∙ st.passing in
+      let all = subst (PassedAll file.defs f.vars f.params host.nothing) st.passed (all_passed file.defs f.vars f.params args.items host.nothing st.args args.fit tt passing) in
       let m : List Block = b.passed.memory in
       let at_args : Instance file.defs = record { tvars = f.vars; targs = []; count = ap (λ z. length z) (sym k.vars); typed = AreArguments.none } in
       let into = entered file.defs at_args m f.params all.values [] fun.distinct all.shapes in
-      let vars : into.vars ≡ b.passed.vars = same_answer (params_over f.params all.values []) into.vars b.passed.vars into.is all.vars_are in
-      let s : SourceState = record { ticks = bound.ticks; memory = m; events = b.passed.events } in
+      let vars : into.vars ≡ b.passed.given = same_answer (params_over f.params all.values []) into.vars b.passed.given into.is all.given in
+      let s : SourceState = begin bound b.passed in
       let proper = bodies_proper file.defs typed can in
       let calls = enter file.defs bound.depth in
       let run = body_sound file.defs fs proper calls (enter_sound file.defs fs proper bound.depth) entry f k.is at_args refl into.vars s into.there all.memory in
-      let there : After (Fine file.defs m (at f.vars [] f.result)) (run_from file bound b) =
-      subst (λ (z : Function). After (Fine file.defs m (at f.vars [] f.result)) (eval file.defs calls z.body (env_of z [] b.passed.vars) s)) same
+      let there : After (Fine file.defs m (at f.vars [] f.result)) (run_from (called_by_host file) bound b) =
+      subst (λ (z : Function). After (Fine file.defs m (at f.vars [] f.result)) (eval file.defs calls z.body (env_of z [] b.passed.given) s)) same
       (subst (λ z. After (Fine file.defs m (at f.vars [] f.result)) (eval file.defs calls fun.body.body (env_of fun.body [] z) s)) vars run) in
-      ends_with file.defs f.vars m f.result (length m) (run_from file bound b) k.answer there
+      ends_with file.defs f.vars m f.result (length m) (run_from (called_by_host file) bound b) k.answer there
 
   pub runs_well : (entry : List ℕ) (args : Arguments) (bound : Bound) → ArgumentsFit file entry args → RunsWell file entry args bound
   runs_well entry args bound fit =
@@ -356,7 +377,7 @@ module _ (file : SourceFile) (typed : AreWellTyped file.defs) (can : EachForm (C
       record {
         function = k.function;
         is = k.is;
-        ends = subst (λ o. EndsWith k.function.result (run_started file bound o).outcome) (sym b.1) (started_run entry args bound b.0 st k);
+        ends = subst (λ o. EndsWith k.function.result (run_started seen (called_by_host file) bound o).outcome) (sym b.1) (started_run entry args bound b.0 st k);
       }
 
 pub typed_runs : TypedFilesRun

@@ -2,7 +2,7 @@
 -- An expression means a step from a scope and a state to a value. Each form has one combinator on the meanings of its
 -- parts, and the table `form_meaning` says which. A value of the wrong shape, or a name that is not there, ends the run as
 -- Undefined: that comes in no file that is well typed.
-use Rattle.std.specs.Prelude.{ℕ, zero, suc, ◌+◌, ◌-◌, ◌*◌, ◌/◌, ◌%◌, ◌^◌, ◌==◌, Bool, true, false, not, ◌&&◌, if◌then◌else◌, nat_lt, nat_le, bit_and, bit_or, bit_xor, List, [], ◌∷◌, ◌++◌, map, length, take, Option, Some, None, IsSome, option_map, option_and_then, slice_get}
+use Rattle.std.specs.Prelude.{ℕ, zero, suc, ◌+◌, ◌-◌, ◌*◌, ◌/◌, ◌%◌, ◌^◌, ◌==◌, Bool, true, false, not, ◌&&◌, if◌then◌else◌, nat_lt, nat_le, bit_and, bit_or, bit_xor, List, [], ◌∷◌, ◌++◌, map, length, Option, Some, None, option_map, option_and_then, slice_get}
 use Rattle.std.specs.Str.{bytes_eq}
 use Rattle.krml_trace.specs.declared.width.Width.{Width}
 use Rattle.krml_trace.specs.declared.width.Width.TheVariants.{W32}
@@ -11,14 +11,13 @@ use Rattle.krml_trace.specs.declared.argument.Arg.TheVariants as arg
 use Rattle.krml_trace.specs.declared.arguments.Arguments.{Arguments}
 use Rattle.krml_trace.specs.declared.bound.Bound.{Bound}
 use Rattle.krml_trace.specs.declared.outcome.Cause.TheVariants as cause
-use Rattle.krml_trace.specs.declared.outcome.Outcome.{Outcome}
-use Rattle.krml_trace.specs.declared.outcome.Outcome.TheVariants as outcome
 use Rattle.krml_trace.specs.declared.why.Why.TheVariants.{Stuck, Undefined}
 use Rattle.krml_trace.specs.Width.{bits, same_width}
-use Rattle.krml_trace.specs.Run.{Goes, bind, leave, ends, with_some, check, tick, outcome_of, events_of}
+use Rattle.krml_trace.specs.Run.{Goes, bind, leave, ends, with_some, check, tick}
 use Rattle.krml_trace.specs.Loop.{Turn, Again, Over, loop}
 use Rattle.krml_trace.specs.Levels.{within}
 use Rattle.krml_trace.specs.Blocks.{close_blocks}
+use Rattle.krml_trace.specs.Host as host
 use Rattle.krml_syntax.specs.declared.tree.IntTy.{IntTy}
 use Rattle.krml_syntax.specs.declared.tree.Ty.{Ty, out-Ty}
 use Rattle.krml_syntax.specs.declared.tree.Ty.TheVariants as t
@@ -497,58 +496,60 @@ has_entry [] x = false
 has_entry (d.Entry name ∷ defs) x = if bytes_eq name x then true else has_entry defs x
 has_entry (def ∷ defs) x = has_entry defs x
 
--- What arguments come to: the values of the parameters, the blocks of the buffers, and their events, the newest first.
-pub record Passed : Type 0 where
-  pub vars : Variables
-  pub memory : List Block
-  pub events : List SourceEvent
+-- What an argument is: a parameter's name with its value, and for a buffer a block and an event.
+abbrev pub Passing : Type 0
+Passing = host.Passing SourceEvent (List ℕ × Value) Block
 
-abbrev pub with_value : List ℕ → Value → Passed → Passed
-with_value x a p = record p { vars = (x, a) ∷ p.vars }
+abbrev pub Passed : Type 0
+Passed = host.Passed SourceEvent (List ℕ × Value) Block
 
 -- a buffer of numbers, as the next block
-abbrev pub with_buffer : List ℕ → IntTy → List ℕ → Passed → Passed
-with_buffer x i nums p = record {
-  vars = (x, v.Buf (length p.memory) 0 (length nums)) ∷ p.vars;
-  memory = p.memory ++ record { elem = t.Int i; len = length nums; live = true; items = map (λ n. v.Num i.width n) nums } ∷ [];
-  events = event.Arg (length p.memory) (t.Int i) (length nums) ∷ p.events;
-}
+abbrev pub buffer : List ℕ → IntTy → List ℕ → Passing
+buffer x i nums = host.Buffer (λ n. (x, v.Buf n 0 (length nums)))
+    (record { elem = t.Int i; len = length nums; live = true; items = map (λ n. v.Num i.width n) nums })
+    (λ n. event.Arg n (t.Int i) (length nums))
 
-abbrev pub where_same : Width → Width → Passed → Option Passed
+abbrev pub where_same : Width → Width → Passing → Option Passing
 where_same w w' p = if same_width w w' then Some p else None
 
-abbrev pub pass_buffer : List ℕ → Width → List ℕ → Ty-F Ty → Passed → Option Passed
-pass_buffer x w nums (Ty-F.Int i) p = where_same w i.width (with_buffer x i nums p)
-pass_buffer x w nums _ p = None
+abbrev pub buffer_for : List ℕ → Width → List ℕ → Ty-F Ty → Option Passing
+buffer_for x w nums (Ty-F.Int i) = where_same w i.width (buffer x i nums)
+buffer_for x w nums _ = None
 
 -- An argument for a parameter of a type, where it fits: a truth value, a number of the width, or a buffer of such numbers.
-abbrev pub pass : List ℕ → Arg → Ty-F Ty → Passed → Option Passed
-pass x (arg.Bool b) Ty-F.Bool p = Some (with_value x (v.Bool b) p)
-pass x (arg.Num w n) (Ty-F.Int i) p = where_same w i.width (with_value x (v.Num w n) p)
-pass x (arg.Buf w nums) (Ty-F.Buf a) p = pass_buffer x w nums (out-Ty a) p
-pass x _ _ p = None
+abbrev pub passing : List ℕ → Arg → Ty-F Ty → Option Passing
+passing x (arg.Bool b) Ty-F.Bool = Some (host.Plain (x, v.Bool b))
+passing x (arg.Num w n) (Ty-F.Int i) = where_same w i.width (host.Plain (x, v.Num w n))
+passing x (arg.Buf w nums) (Ty-F.Buf a) = buffer_for x w nums (out-Ty a)
+passing x _ _ = None
 
 -- the arguments for the parameters, one by one
-abbrev pub pass_all : List Field → List Arg → Passed → Option Passed
-pass_all [] [] p = Some p
-pass_all (f ∷ params) (a ∷ args) p = option_and_then (pass_all params args) (pass f.name a (out-Ty f.ty) p)
-pass_all _ _ p = None
+abbrev pub passings : List Field → List Arg → Option (List Passing)
+passings [] [] = Some []
+passings (f ∷ params) (a ∷ args) = option_and_then (λ p. option_map (λ ps. p ∷ ps) (passings params args)) (passing f.name a (out-Ty f.ty))
+passings _ _ = None
 
 -- What a run begins with: a function, and what its arguments come to.
-pub record Start : Type 0 where
-  pub function : Function
-  pub passed : Passed
+abbrev pub Start : Type 0
+Start = host.Start SourceEvent (List ℕ × Value) Block Function
 
 abbrev pub start_of : List Arg → Function → Option Start
-start_of args f = option_map (λ p. record { function = f; passed = p }) (pass_all f.params args (record { vars = []; memory = []; events = [] }))
+start_of args f = option_map (λ ps. record { function = f; passed = host.passed ps }) (passings f.params args)
 
 -- The start of an entry's run: the file has an entry and a function of that name, and the arguments fit the function.
 abbrev pub start : SourceFile → List ℕ → List Arg → Option Start
 start file entry args = if has_entry file.defs entry then option_and_then (start_of args) (function_named file.defs entry) else None
 
+-- A file, as a host calls it.
+abbrev pub called_by_host : SourceFile → host.Program SourceEvent (List ℕ × Value) Block Function Value
+called_by_host file = record {
+  start = start file;
+  enter = λ depth b s. eval file.defs (enter file.defs depth) b.function.body (env_of b.function [] b.passed.given) s;
+}
+
 -- The arguments fit an entry of the file.
 abbrev pub ArgumentsFit : SourceFile → List ℕ → Arguments → Type 0
-ArgumentsFit file entry args = IsSome (start file entry args.items)
+ArgumentsFit file entry args = host.ArgumentsFit (called_by_host file) entry args
 
 -- A result as a number, where there is one: a truth value is 0 or 1.
 abbrev pub scalar_in : Value-F Value → Option ℕ
@@ -557,30 +558,15 @@ scalar_in (Value-F.Bool true) = Some 1
 scalar_in (Value-F.Bool false) = Some 0
 scalar_in _ = None
 
-abbrev pub number_or_zero : Option ℕ → ℕ
-number_or_zero (Some n) = n
-number_or_zero None = 0
-
--- the numbers of a block
-abbrev pub contents : Block → List ℕ
-contents b = map (λ x. number_or_zero (scalar_in (out-Value x))) b.items
-
--- A run that went to its end is done with its result, and the first so many blocks, which are the arguments'.
-abbrev pub done : ℕ → Value → SourceState → Outcome
-done buffers x s = outcome.Done (scalar_in (out-Value x)) (map contents (take buffers s.memory))
-
-abbrev pub run_from : SourceFile → Bound → Start → SourceRan Value
-run_from file bound b = eval file.defs (enter file.defs bound.depth) b.function.body (env_of b.function [] b.passed.vars)
-    (record { ticks = bound.ticks; memory = b.passed.memory; events = b.passed.events })
-
-abbrev pub run_of : ℕ → SourceRan Value → SourceRun
-run_of buffers r = record { outcome = outcome_of (done buffers) r; events = events_of r }
-
-abbrev pub run_started : SourceFile → Bound → Option Start → SourceRun
-run_started file bound (Some b) = run_of (length b.passed.memory) (run_from file bound b)
-run_started file bound None = record { outcome = outcome.Undefined; events = [] }
+-- What a host sees of values, blocks and runs.
+abbrev pub seen : host.Seen SourceEvent Block Value SourceRun
+seen = record {
+  scalar = λ x. scalar_in (out-Value x);
+  numbers = λ b. map (λ x. scalar_in (out-Value x)) b.items;
+  run = λ o es. record { outcome = o; events = es };
+}
 
 -- The run of an entry on arguments under a bound. Where there is no such entry, or the arguments do not fit it, the run
 -- is Undefined and has no events.
 abbrev pub source_run : SourceFile → List ℕ → Arguments → Bound → SourceRun
-source_run file entry args bound = run_started file bound (start file entry args.items)
+source_run file entry args bound = host.run seen (called_by_host file) entry args bound

@@ -4,6 +4,7 @@ pub mod Blocks
 pub mod Byte
 pub mod Follows
 pub mod Gives
+pub mod Host
 pub mod Levels
 pub mod Limits
 pub mod Loop
