@@ -7,6 +7,7 @@ mod compile;
 mod input;
 mod krml;
 mod output;
+mod pipeline;
 mod refusal;
 mod stop;
 #[cfg(test)]

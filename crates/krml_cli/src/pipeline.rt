@@ -1,0 +1,29 @@
+//! The compiler, pass by pass. Where a pass is not built, its line gives the same file the form that the pass would: what is
+//! built has nothing in it for that pass to do.
+
+ghost use Rattle.std.specs.Prelude.{IfOk};
+ghost use Rattle.krml_cstar.specs.Built.{AreBuilt};
+ghost use Rattle.krml_cli.specs.Steps.{IsText};
+
+use krml_ast::{CheckedFile, HoistedFile, MonoFile, PlainFile};
+use krml_bundle::bundle;
+use krml_cprint::print_c;
+use krml_cstar::to_cstar;
+use krml_trace::NoMemory;
+use krml_types::TypedFile;
+use std::alloc::Global;
+
+/// The C text of a file with its types, whose definitions are built.
+pub fn compile(alloc: Global, typed: TypedFile) -> Result<Vec<u8>, NoMemory>
+    requires built { AreBuilt typed.defs }
+    ensures { IfOk result (λ text. IsText typed text.items) }
+{
+    let checked = CheckedFile::of(typed.into_file());
+    let mono = MonoFile::of(checked.into_file());
+    let plain = PlainFile::of(mono.into_file());
+    let hoisted = HoistedFile::of(plain.into_file());
+    let bundled = bundle(alloc, &hoisted)?;
+    let program = to_cstar(alloc, &bundled)?;
+    let text = print_c(alloc, &program)?;
+    Ok(text)
+}
