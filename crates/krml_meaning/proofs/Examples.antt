@@ -46,7 +46,7 @@ use Rattle.krml_meaning.proofs.Taken.{takes_any, takes_bind, takes_bool, takes_n
 -- ---- how a run is computed
 
 -- what forms mean
-ruleset forms = (
+pub ruleset forms = (
   evals.var_is,
   evals.unit_is,
   evals.bool_is,
@@ -83,7 +83,7 @@ ruleset forms = (
 )
 
 -- what stands in values, types and patterns
-ruleset shapes = (
+pub ruleset shapes = (
   v.outs-Unit,
   v.outs-Bool,
   v.outs-Num,
@@ -105,21 +105,21 @@ ruleset shapes = (
   takes_make,
 )
 
-ruleset computing = (forms, shapes, src.eval)
+pub ruleset computing = (forms, shapes, src.eval)
 
 -- ---- words for expressions
 
 -- the public type of a width
-abbrev plain : Width → IntTy
+abbrev pub plain : Width → IntTy
 plain w = record { width = w; secret = false }
 
-abbrev num : Width → ℕ → Expr
+abbrev pub num : Width → ℕ → Expr
 num w n = e.Num (plain w) n
 
-abbrev u8 : ℕ → Expr
+abbrev pub u8 : ℕ → Expr
 u8 n = num W8 n
 
-abbrev u32 : ℕ → Expr
+abbrev pub u32 : ℕ → Expr
 u32 n = num W32 n
 
 abbrev u64 : ℕ → Expr
@@ -140,7 +140,7 @@ no_8 n = e.If (e.Bool false) (u8 0) (u8 n)
 abbrev no_number : Expr
 no_number = e.Bin op.Div (plain W8) (u8 1) (u8 0)
 
-abbrev u8_ty : Ty
+abbrev pub u8_ty : Ty
 u8_ty = t.Int (plain W8)
 
 abbrev u32_ty : Ty
@@ -310,16 +310,16 @@ choice_by_a_number calls env s = simp computing
 -- ---- runs of one expression
 
 -- no event so far, no memory, and so many ticks
-abbrev begin : ℕ → SourceState
+abbrev pub begin : ℕ → SourceState
 begin ticks = record { ticks = ticks; memory = []; events = [] }
 
 -- no variable in scope
-abbrev nowhere : Env
+abbrev pub nowhere : Env
 nowhere = record { vars = []; tvars = []; targs = []; base = 0 }
 
 -- With these definitions and 5 ticks, an expression where no variable is in scope has a value, leaves these events, the
 -- newest first, and so many ticks.
-abbrev Leaves : List Def → Expr → Value → List SourceEvent → ℕ → Type 0
+abbrev pub Leaves : List Def → Expr → Value → List SourceEvent → ℕ → Type 0
 Leaves defs a x es left = (calls : src.Calls) → src.eval defs calls a nowhere (begin 5) ≡ Goes x (record { ticks = left; memory = []; events = es })
 
 -- With so many ticks it ends the run, and leaves these events.
@@ -499,15 +499,15 @@ no_case calls = simp computing
 
 -- ---- frames
 
-abbrev slot : Ty → ℕ → Slot
+abbrev pub slot : Ty → ℕ → Slot
 slot a len = record { ty = a; len = len }
 
 -- a block of 8-bit numbers whose frame was left
-abbrev left_block : List Value → ℕ → Block
+abbrev pub left_block : List Value → ℕ → Block
 left_block items len = record { elem = u8_ty; len = len; live = false; items = items }
 
 -- With 5 ticks an expression where no variable is in scope has a value, and leaves blocks, events and ticks.
-abbrev Fills : Expr → Value → List Block → List SourceEvent → ℕ → Type 0
+abbrev pub Fills : Expr → Value → List Block → List SourceEvent → ℕ → Type 0
 Fills a x m es left = (calls : src.Calls) → src.eval [] calls a nowhere (begin 5) ≡ Goes x (record { ticks = left; memory = m; events = es })
 
 abbrev b : Expr

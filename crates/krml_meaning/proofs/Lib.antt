@@ -6,6 +6,7 @@ pub mod Earlier
 pub mod Entries
 pub mod Evals
 pub mod Examples
+mod ExamplesOfBuffers
 pub mod Facts
 pub mod Files
 pub mod Flat
