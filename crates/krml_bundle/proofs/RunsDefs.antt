@@ -14,6 +14,7 @@ use Rattle.krml_syntax.specs.declared.tree.Pat.TheVariants as p
 use Rattle.krml_syntax.specs.declared.tree.Pat.TheOpen.{Pat-F}
 use Rattle.krml_syntax.specs.declared.tree.Pat.TheFolds.{fold_out-Pat, fold-roll-Pat, ind-Pat}
 use Rattle.krml_syntax.specs.declared.tree.Def.{Def}
+use Rattle.krml_syntax.specs.Spelling.{Each}
 use Rattle.krml_ast.specs.Names.{type_named}
 use Rattle.krml_ast.specs.declared.event.SourceEvent.TheVariants as event
 use Rattle.krml_meaning.specs.declared.value.Value.{Value, out-Value}
@@ -25,7 +26,7 @@ use Rattle.krml_bundle.specs.Bundled.{ty_bundled, level_pat, pat_bundled, def_bu
 use Rattle.krml_bundle.proofs.RunsValues as is
 use Rattle.krml_bundle.proofs.RunsValues.{value_bundled, vars_bundled, state_bundled, ran_bundled, bind_bundled, some_bundled}
 use Rattle.krml_bundle.proofs.RunsLookups.{fields_of_bundled, place_bundled, con_place_bundled, table_from_bundled, zero_value_bundled}
-use Rattle.krml_bundle.proofs.RunsForms.{Each, Same, goes_bundled, values_bundled}
+use Rattle.krml_bundle.proofs.RunsForms.{Same, goes_bundled, values_bundled}
 
 module _ (defs : List Def) where
   pub make_same : (x : List ℕ) (es es' : List Sem) → Each Same es es' → Same (src.make defs x es) (src.make (map def_bundled defs) (emitted_type x) es')

@@ -7,6 +7,7 @@ use Rattle.krml_syntax.specs.declared.tree.Expr.{Expr, roll-Expr, map-Expr}
 use Rattle.krml_syntax.specs.declared.tree.Expr.TheOpen.{Expr-F, Item-F, Arm-F, Case-F}
 use Rattle.krml_syntax.specs.declared.tree.Expr.TheFolds.{fold-roll-Expr, fold-roll-Item, fold-roll-Arm, fold-roll-Case, ind-Expr, map-Item, map-Arm, map-Case}
 use Rattle.krml_syntax.specs.declared.tree.Def.{Def}
+use Rattle.krml_syntax.specs.Spelling.{Each}
 use Rattle.krml_meaning.specs.State.{Sem}
 use Rattle.krml_meaning.specs.Numbered.{Numbered}
 use Rattle.krml_meaning.specs.Meaning as src
@@ -15,7 +16,7 @@ use Rattle.krml_bundle.specs.Emitted.{emitted_fun, emitted_type, emitted_table, 
 use Rattle.krml_bundle.specs.Bundled.{ty_bundled, slot_bundled, pat_bundled, level_expr, level_item, level_arm, level_case, expr_bundled, def_bundled, item_bundled, arm_bundled, case_bundled}
 use Rattle.krml_bundle.proofs.RunsValues as is
 use Rattle.krml_bundle.proofs.RunsForms as form
-use Rattle.krml_bundle.proofs.RunsForms.{Each, Same, SameStep, SameBranch, SameTested, SameCalls}
+use Rattle.krml_bundle.proofs.RunsForms.{Same, SameStep, SameBranch, SameTested, SameCalls}
 use Rattle.krml_bundle.proofs.RunsDefs as def
 use Rattle.krml_bundle.proofs.RunsNumbered.{SameOf, none_of, one_of, two_of, three_of, many_of, frame_of, alloc_of}
 

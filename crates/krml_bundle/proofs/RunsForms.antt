@@ -14,6 +14,7 @@ use Rattle.krml_syntax.specs.declared.tree.Ty.{Ty}
 use Rattle.krml_syntax.specs.declared.tree.Slot.{Slot}
 use Rattle.krml_syntax.specs.declared.tree.BinOp.{BinOp}
 use Rattle.krml_syntax.specs.declared.tree.CmpOp.{CmpOp}
+use Rattle.krml_syntax.specs.Spelling.{Each}
 use Rattle.krml_ast.specs.declared.event.SourceEvent.TheVariants as event
 use Rattle.krml_meaning.specs.declared.value.Value.{Value}
 use Rattle.krml_meaning.specs.declared.value.Value.TheVariants as v
@@ -24,11 +25,6 @@ use Rattle.krml_bundle.specs.Bundled.{ty_bundled, slot_bundled}
 use Rattle.krml_bundle.proofs.Names.{field_as_different}
 use Rattle.krml_bundle.proofs.RunsValues as is
 use Rattle.krml_bundle.proofs.RunsValues.{value_bundled, vars_bundled, env_bundled, block_bundled, state_bundled, ran_bundled, turn_bundled, bind_bundled, some_bundled, check_bundled, if_bundled}
-
--- Related one by one.
-pub data Each {A B : Type 0} (R : A → B → Type 0) : List A → List B → Type 0 where
-  none : Each R [] []
-  one : {x : A} {y : B} {xs : List A} {ys : List B} → R x y → Each R xs ys → Each R (x ∷ xs) (y ∷ ys)
 
 -- An expression under the new names does what it does under the old ones.
 pub record Same (ev ev' : Sem) : Type 0 where

@@ -3,11 +3,12 @@ use Rattle.std.proofs.Common.{◌≡◌, ℕ, suc, ◌+◌, List, ◌∷◌, ◌
 use Rattle.std.proofs.lemmas.List.{map-append, length-map}
 use Rattle.krml_syntax.specs.declared.tree.Ty.{Ty}
 use Rattle.krml_syntax.specs.declared.tree.Slot.{Slot}
+use Rattle.krml_syntax.specs.Spelling.{Each}
 use Rattle.krml_meaning.specs.State.{Sem}
 use Rattle.krml_meaning.specs.Numbered.{Numbered, none, one, two, three, many, each_from}
 use Rattle.krml_meaning.specs.Meaning as src
 use Rattle.krml_bundle.specs.Bundled.{ty_bundled, slot_bundled}
-use Rattle.krml_bundle.proofs.RunsForms.{Each, Same, frame_same, fill_same}
+use Rattle.krml_bundle.proofs.RunsForms.{Same, frame_same, fill_same}
 
 -- What something means under the new names stands to what it means so, wherever its slots are numbered from.
 pub record SameOf {A : Type 0} (R : A → A → Type 0) (n n' : Numbered A) : Type 0 where

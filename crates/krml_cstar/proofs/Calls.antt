@@ -40,7 +40,7 @@ use Rattle.krml_cstar.specs.Translation as code
 use Rattle.krml_cstar.specs.Translation.{Comp, ctype, plain, is_unit, gives, does, nothing, params_from, cvars, fun_code}
 use Rattle.krml_cstar.proofs.Images.{image_at, images_at, the_image, state_image, Sim}
 use Rattle.krml_cstar.proofs.Lookups.{Lookups}
-use Rattle.krml_cstar.proofs.Part.{FunctionBuilt, function_built, table_built, erased_built, at_built, public_same}
+use Rattle.krml_cstar.proofs.Part.{FunctionBuilt, function_built, table_built, erased_built, at_built, public_same, types_here}
 use Rattle.krml_cstar.proofs.Typed.{has_number, image_num, image_typed, arguments_fit}
 use Rattle.krml_cstar.proofs.TypesInC.{ctype_int}
 use Rattle.krml_cstar.proofs.PartTypes.{number_part, known_width, type_part}
@@ -48,7 +48,7 @@ use Rattle.krml_cstar.proofs.VariableNames.{number_of, number-plain}
 use Rattle.krml_cstar.proofs.LocalsInC.{Keeps, Below, below_more, keeps_all, keeps_then, keeps_new, new_named, only_value}
 use Rattle.krml_cstar.proofs.Fits.{IsPart, param_types, In, Gave, CallsFit, Good, Fits}
 use Rattle.krml_cstar.proofs.Forms.{var_holds, unit_clash, number_value, sim_number, exec, made, part_then, on_in}
-use Rattle.krml_cstar.proofs.Structs.{FitsAll, all_then, types_here}
+use Rattle.krml_cstar.proofs.Structs.{FitsAll, all_then}
 
 module _ (defs : List Def) (typed : AreWellTyped defs) (built : AreBuilt defs) (p : CProgram) (lookups : Lookups defs p) (calls : tgt.Calls) where
   -- both spend a tick
@@ -138,7 +138,7 @@ module _ (defs : List Def) (typed : AreWellTyped defs) (built : AreBuilt defs) (
     count = ap (λ vs. length vs) (sym b.none)
 
     types_are : fields_at f.vars [] f.params ≡ param_types f.params
-    types_are = types_here defs p calls typed built lookups f.vars [] f.params b.types
+    types_are = types_here f.vars [] f.params b.types
 
     result_is : at f.vars [] f.result ≡ f.result
     result_is = at_built f.vars [] f.result b.result

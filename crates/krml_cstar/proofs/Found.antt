@@ -5,6 +5,7 @@ use Rattle.std.specs.Str.{bytes_eq}
 use Rattle.std.proofs.lemmas.Slice.Eq.{bytes_eq-Decides}
 use Rattle.std.proofs.lemmas.List.Concat.{flat_map-append}
 use Rattle.std.proofs.lemmas.List.Elements.{Contains-append_left, Contains-append_right, Contains-append_cases}
+use Rattle.krml_trace.proofs.Lists.{contains_first}
 use Rattle.krml_syntax.specs.declared.tree.Field.{Field}
 use Rattle.krml_syntax.specs.declared.tree.Def.{Def}
 use Rattle.krml_syntax.specs.declared.tree.Def.TheVariants as d
@@ -14,7 +15,7 @@ use Rattle.krml_ast.specs.WellTyped.{type_name, table_name, fun_name, WellTyped,
 use Rattle.krml_meaning.specs.Meaning as src
 use Rattle.krml_meaning.proofs.Lists.{same_some, no_some}
 use Rattle.krml_meaning.proofs.Facts.{same_struct}
-use Rattle.krml_meaning.proofs.Files.{contains_first, through}
+use Rattle.krml_meaning.proofs.Files.{through}
 use Rattle.krml_ctree.specs.declared.tree.CStruct.{CStruct}
 use Rattle.krml_ctree.specs.declared.tree.CTable.{CTable}
 use Rattle.krml_ctree.specs.declared.tree.CFun.{CFun}

@@ -75,6 +75,10 @@ fields_erased_built (f ∷ fields) e =
     let both = and_parts (is_ty_built f.ty) (are_fields_built fields) e in
     ap (λ z. z ∷ map (λ (g : Field). erased g.ty) fields) (erased_built f.ty both.0) ∙ ap (λ z. f.ty ∷ z) (fields_erased_built fields both.1)
 
+-- the types of fields and of parameters, at any type arguments
+pub types_here : (vars : List (List ℕ)) (args : List Ty) (fields : List Field) → are_fields_built fields ≡ true → fields_at vars args fields ≡ map (λ f. erased f.ty) fields
+types_here vars args fields e = fields_at_built vars args fields e ∙ sym (fields_erased_built fields e)
+
 -- ---- what holds of each definition holds of the one that a name means
 
 module _ (P : Def → Type 0) where

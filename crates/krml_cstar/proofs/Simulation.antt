@@ -27,7 +27,7 @@ use Rattle.krml_cstar.specs.Built.{is_public, is_empty, all, is_ty_built, are_fi
 use Rattle.krml_cstar.specs.Translation as code
 use Rattle.krml_cstar.specs.Translation.{Comp, ItemComp, is_unit, code_of}
 use Rattle.krml_cstar.proofs.Lookups.{Lookups}
-use Rattle.krml_cstar.proofs.Part.{nothing_listed, erased_built, at_built, StructBuilt, FunctionBuilt, struct_built, function_built}
+use Rattle.krml_cstar.proofs.Part.{nothing_listed, erased_built, at_built, StructBuilt, FunctionBuilt, struct_built, function_built, types_here}
 use Rattle.krml_cstar.proofs.Typed.{each_value}
 use Rattle.krml_cstar.proofs.PartTypes.{number_part, type_part}
 use Rattle.krml_cstar.proofs.BuiltForms as form
@@ -37,7 +37,7 @@ use Rattle.krml_cstar.proofs.Forms.{number_value, unit_fits, var_fits}
 use Rattle.krml_cstar.proofs.Operators.{binary_fits, shift_fits, compare_fits, opposite_fits, cast_fits, num_fits, truth_fits}
 use Rattle.krml_cstar.proofs.Choices.{choice_fits}
 use Rattle.krml_cstar.proofs.Blocks.{FitItems, no_items_fit, bound_fits, ran_fits, block_fits}
-use Rattle.krml_cstar.proofs.Structs.{field_among, fields_each_built, FitsAll, none_fit, more_fit, types_here, make_fits, get_fits}
+use Rattle.krml_cstar.proofs.Structs.{field_among, fields_each_built, FitsAll, none_fit, more_fit, make_fits, get_fits}
 use Rattle.krml_cstar.proofs.Calls.{tab_fits, call_fits}
 use Rattle.krml_cstar.proofs.Loops.{while_fits, for_fits}
 use Rattle.krml_cstar.proofs.Levels.{BodiesFit}
@@ -48,12 +48,8 @@ module _ (defs : List Def) (typed : AreWellTyped defs) (built : AreBuilt defs) (
   AreValues types = AllByRecursion (λ a. is_unit a ≡ false) types
 
   module _ (source : src.Calls) (calls : tgt.Calls) (hk : CallsSound defs source) (kf : CallsFit defs source calls) where
-    -- the types of fields or parameters, at type arguments
-    fields_here : (vars : List (List ℕ)) (args : List Ty) (fields : List Field) → are_fields_built fields ≡ true → fields_at vars args fields ≡ param_types fields
-    fields_here vars args fields e = types_here defs p calls typed built lookups vars args fields e
-
     values_at : (vars : List (List ℕ)) (args : List Ty) (fields : List Field) → are_fields_built fields ≡ true → AllByRecursion (λ f. IsValue f.ty) fields → AreValues (fields_at vars args fields)
-    values_at vars args fields e h = subst AreValues (sym (fields_here vars args fields e)) (each_value defs built fields h)
+    values_at vars args fields e h = subst AreValues (sym (types_here vars args fields e)) (each_value defs built fields h)
 
     -- ---- the type that a form asks for
 
@@ -110,7 +106,7 @@ module _ (defs : List Def) (typed : AreWellTyped defs) (built : AreBuilt defs) (
           let none : args ≡ [] = nothing_listed args both.0 in
           rw (evals.make_is defs source y args es, codes.make_is defs y args es) (as_type g.vars (t.Named y []) (t.Named y (map erased args)) _ _ (ap (λ l. t.Named y (map erased l)) (sym none))
           (make_fits defs p calls typed built lookups g.vars y vars fields _ (map (code_of defs) es) is
-          (all_as g.vars (fields_at vars args fields) (param_types fields) _ (map (code_of defs) es) (fields_here vars args fields sb.types) hs)))
+          (all_as g.vars (fields_at vars args fields) (param_types fields) _ (map (code_of defs) es) (types_here vars args fields sb.types) hs)))
       fits g x r (HasType.get {x = s} {y = y} {vars = vars} {fields = fields} args {a = a} {b = c} da is c_is) b parts k =
           let bc = field_among (λ z. is_ty_built z ≡ true) fields y c (fields_each_built fields (struct_built defs typed built s vars fields is).types) c_is in
           rw (evals.get_is defs source y a, codes.get_is defs y a) (as_type g.vars c (at vars args c) _ _ (sym (at_built vars args c bc))
@@ -146,7 +142,7 @@ module _ (defs : List Def) (typed : AreWellTyped defs) (built : AreBuilt defs) (
           rw (evals.call_is defs source y args es, codes.call_is defs y args es) (as_type g.vars f.result (at f.vars args f.result) _ _ (sym (at_built f.vars args f.result fb.result))
           (call_as g.vars f.result y args (each_from (map (evals.means defs source) es) k) _ none
           (call_fits defs typed built p lookups calls source hk kf g.vars y f _ (map (code_of defs) es) is
-          (all_as g.vars (fields_at f.vars args f.params) (param_types f.params) _ (map (code_of defs) es) (fields_here f.vars args f.params fb.types) hs))))
+          (all_as g.vars (fields_at f.vars args f.params) (param_types f.params) _ (map (code_of defs) es) (types_here f.vars args f.params fb.types) hs))))
       fits g x r (HasType.hide {i = i} {a = a} da) b parts k = absurd (form.no_hide i a b)
       fits g x r (HasType.con {x = y} {args = args} {es = es} is n oks ds) b parts k = absurd (form.no_con y args es b)
       fits g x r (HasType.read {a = a} {i = i} da di) b parts k = absurd (form.no_read a i b)

@@ -43,7 +43,7 @@ use Rattle.krml_cstar.specs.Translation as code
 use Rattle.krml_cstar.specs.Translation.{Names, Comp, is_unit, gives}
 use Rattle.krml_cstar.proofs.Images.{level_image, image_at, images_at, the_image, state_image, Sim}
 use Rattle.krml_cstar.proofs.Lookups.{Lookups, fields_of}
-use Rattle.krml_cstar.proofs.Part.{struct_built, erased_built, at_built, fields_at_built, fields_erased_built}
+use Rattle.krml_cstar.proofs.Part.{struct_built, erased_built, at_built, types_here}
 use Rattle.krml_cstar.proofs.Typed.{images_of_fields, image_struct, fields_fit}
 use Rattle.krml_cstar.proofs.PartTypes.{struct_part, type_part}
 use Rattle.krml_cstar.proofs.VariableNames.{name_is}
@@ -131,10 +131,6 @@ module _ (defs : List Def) (p : CProgram) (calls : tgt.Calls) where
   -- ---- structs
 
   module _ (typed : AreWellTyped defs) (built : AreBuilt defs) (lookups : Lookups defs p) where
-    -- the types of fields and of parameters, at no type arguments
-    pub types_here : (vars : List (List ℕ)) (args : List Ty) (fields : List Field) → are_fields_built fields ≡ true → fields_at vars args fields ≡ param_types fields
-    types_here vars args fields e = fields_at_built vars args fields e ∙ sym (fields_erased_built fields e)
-
     -- (make S () a..)
     pub make_fits : (vars : Vars) (x : List ℕ) (tvars : List (List ℕ)) (fields : List Field) (evs : List Sem) (cos : List Comp) → type_named defs x ≡ Some (Struct tvars fields)
         → FitsAll vars (param_types fields) evs cos → Fits defs p calls vars (t.Named x []) (src.make defs x evs) (gives (code.built x cos))

@@ -4,6 +4,7 @@ use Rattle.std.proofs.lemmas.Grind.{flat_map-append}
 use Rattle.std.proofs.lemmas.List.Elements.{Contains-append_right}
 use Rattle.std.proofs.lemmas.List.Folds.{flat_map-map}
 use Rattle.krml_trace.specs.declared.width.Width.TheVariants.{W8}
+use Rattle.krml_trace.proofs.Lists.{contains_first}
 use Rattle.krml_ctree.specs.declared.tree.CType.{CType}
 use Rattle.krml_ctree.specs.declared.tree.CType.TheVariants as ct
 use Rattle.krml_ctree.specs.declared.tree.CVar.{CVar}
@@ -18,7 +19,6 @@ use Rattle.krml_ctree.specs.Text.{width_type}
 use Rattle.krml_ctree.specs.Shape.{IsVariable, IsTable, IsFunction, TypeKeeps, ExprKeeps, ExprsKeep, StatementKeeps, StatementsKeep, ArmKeeps, ArmsKeep}
 use Rattle.krml_ctree.specs.WellFormed as wf
 use Rattle.krml_ctree.specs.WellFormed.{Declared, Scope, of_var, IsKnown, IsArithmetic, HasType, HaveTypes, IsCondition, StatementFits, StatementsFit, BlockFits, ArmsFit}
-use Rattle.krml_meaning.proofs.Files.{contains_first}
 use Rattle.krml_cstar.specs.Translation.{plain, var, arm}
 use Rattle.krml_cstar.proofs.VariableNames.{number_of, number-plain}
 use Rattle.krml_cstar.proofs.WellFormedNames.{Fresh, plain_is, fresh_none, fresh_one, fresh_both}

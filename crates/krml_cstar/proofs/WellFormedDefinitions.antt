@@ -6,6 +6,7 @@ use Rattle.std.specs.Fmt.{decimal}
 use Rattle.std.specs.List.{AllByRecursion}
 use Rattle.std.specs.Str.{bytes_eq}
 use Rattle.krml_trace.specs.Width.{bits}
+use Rattle.krml_trace.proofs.Lists.{contains_first, contains_later}
 use Rattle.krml_syntax.specs.declared.tree.IntTy.{IntTy}
 use Rattle.krml_syntax.specs.declared.tree.Ty.{Ty}
 use Rattle.krml_syntax.specs.declared.tree.Ty.TheVariants as t
@@ -28,7 +29,7 @@ use Rattle.krml_ctree.specs.Shape.{IsPlain, TypeKeeps, IsStruct, IsTable, IsFunc
 use Rattle.krml_ctree.specs.WellFormed.{IsKnown}
 use Rattle.krml_meaning.proofs.Lists.{same_some, no_some, each_so, each_append, each_left, each_right}
 use Rattle.krml_syntax.proofs.Types.{at_none}
-use Rattle.krml_meaning.proofs.Files.{contains_first, contains_later, facts}
+use Rattle.krml_meaning.proofs.Files.{facts}
 use Rattle.krml_cstar.specs.Built.{is_ty_built, is_empty, are_fields_built, is_expr_built, is_built}
 use Rattle.krml_cstar.specs.Translation.{ctype, fun_code, structs_of, tables_of, funs_of}
 use Rattle.krml_cstar.proofs.Part.{nothing_listed}

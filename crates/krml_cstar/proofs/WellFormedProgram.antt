@@ -5,6 +5,7 @@ use Rattle.std.proofs.lemmas.Grind.{flat_map-append}
 use Rattle.std.proofs.lemmas.List.Elements.{Contains-append_left, Contains-append_right, Contains-append_cases}
 use Rattle.std.specs.List.{AllByRecursion, IsDistinct}
 use Rattle.std.specs.Str.{bytes_eq}
+use Rattle.krml_trace.proofs.Lists.{contains_first, contains_later, take_front, at_front}
 use Rattle.krml_syntax.specs.declared.tree.Ty.{Ty}
 use Rattle.krml_syntax.specs.declared.tree.Field.{Field}
 use Rattle.krml_syntax.specs.declared.tree.Expr.{Expr}
@@ -30,7 +31,7 @@ use Rattle.krml_ctree.specs.Shape.{IsField, IsFunction, VarKeeps, FieldKeeps, St
 use Rattle.krml_ctree.specs.WellFormed as wf
 use Rattle.krml_ctree.specs.WellFormed.{Scope, of_var, IsKnown, AnswerFits, FunFits, StructsFit, TableFits, WellFormed}
 use Rattle.krml_meaning.proofs.Lists.{each_so, each_append, each_among, map_twice}
-use Rattle.krml_meaning.proofs.Files.{contains_first, contains_later, take_front, at_front, through, each_def}
+use Rattle.krml_meaning.proofs.Files.{through, each_def}
 use Rattle.krml_cstar.specs.Built.{is_ty_built, are_fields_built, is_built}
 use Rattle.krml_cstar.specs.Count.{HaveFewVariables, variables_of}
 use Rattle.krml_cstar.specs.Translation.{ctype, is_unit, named, Names, Out, code_of, params_from, cvars, fun_code, structs_of, tables_of, funs_of, program_of}

@@ -15,6 +15,7 @@ use Rattle.krml_trace.specs.Width.{bits, same_width}
 use Rattle.krml_trace.specs.Argument.{fits_width}
 use Rattle.krml_trace.specs.Run.{Goes, bind, leave, ends, with_some, check, tick}
 use Rattle.krml_trace.specs.Loop.{Turn, Again, Over, loop}
+use Rattle.krml_trace.specs.Levels as levels
 use Rattle.krml_trace.specs.Levels.{within}
 use Rattle.krml_trace.specs.Blocks.{close_blocks}
 use Rattle.krml_trace.specs.Host as host
@@ -247,7 +248,7 @@ pub record Called : Type 0 where
 
 -- what calls mean: the result of the function, where it has one
 abbrev pub Calls : Type 0
-Calls = Called → CState → CRan (Option CValue)
+Calls = levels.Calls CEvent (List CBlock) Called (Option CValue)
 
 -- whether a function gives something, or nothing
 abbrev pub gives_as : Bool → Option CType → Bool

@@ -11,6 +11,7 @@ use Rattle.krml_forms.specs.Nest.{nest}
 use Rattle.krml_forms.specs.Cut.{after_word, tokens_after}
 use Rattle.krml_forms.specs.Scan.{depth_after}
 use Rattle.krml_forms.proofs.Cuts.{tokens_are_cut}
+use Rattle.krml_forms.proofs.Nested.{guarded}
 use Rattle.krml_forms.proofs.Nesting.{forms_again}
 use Rattle.krml_forms.proofs.Places.{SoFar, Shallow, start, start_shallow, goes_on, stays_shallow, all_closed, all_shallow, split}
 
@@ -45,10 +46,6 @@ not_word : (b : ℕ) (c : ℕ) → is_word c ≡ false → is_word b ≡ true �
 not_word b c n h = λ e. let t : is_word c ≡ true = ap is_word (sym e) ∙ h in absurd (cc)
 
 -- ---- from a place on
-
-guarded : {A : Type 0} (b : Bool) (x : Option A) (y : A) → cond b x None ≡ Some y → (b ≡ true) × (x ≡ Some y)
-guarded true x y e = (refl, e)
-guarded false x y e = absurd (cc)
 
 -- the word so far is one more form
 peeled : (w : List ℕ) (outer : List (List Form)) (inner : List Form) → (more : List Form) × ((ts : List Token) → nest outer inner (after_word w ts) ≡ nest outer more ts)

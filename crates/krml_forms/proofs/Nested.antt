@@ -36,7 +36,7 @@ within_push : (n : ℕ) (outer : List (List Form)) (inner : List Form) (f : Form
 within_push n [] inner f s w = all_push (Within n) inner f s w
 within_push n (up ∷ outer) inner f s w = (all_push (Within n) inner f s.0 w, s.1)
 
-guarded : {A : Type 0} (b : Bool) (x : Option A) (y : A) → cond b x None ≡ Some y → (b ≡ true) × (x ≡ Some y)
+pub guarded : {A : Type 0} (b : Bool) (x : Option A) (y : A) → cond b x None ≡ Some y → (b ≡ true) × (x ≡ Some y)
 guarded true x y e = (refl, e)
 guarded false x y e = absurd (cc)
 

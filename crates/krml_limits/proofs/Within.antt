@@ -7,23 +7,13 @@ use Rattle.krml_syntax.specs.declared.limit.LimitKind.{LimitKind}
 use Rattle.krml_syntax.specs.declared.limit.LimitKind.TheVariants as k
 use Rattle.krml_syntax.specs.declared.tree.Def.{Def}
 use Rattle.krml_syntax.specs.Limits.{limit_of, kinds, counts, first_above, excess, excess_or, first_excess_of, first_excess}
+use Rattle.krml_syntax.proofs.Limits.{none_above}
 use Rattle.krml_limits.specs.Within.{IsWithin}
 
 -- ---- counts of a kind
 
-at_most : (limit n : ℕ) → nat_lt limit n ≡ false → n ≤ limit
-at_most limit n e = grind (arith, nat_tests)
-
 not_above : (limit n : ℕ) → n ≤ limit → nat_lt limit n ≡ false
 not_above limit n l = grind (arith, nat_tests)
-
-none_above : (limit : ℕ) (ns : List ℕ) → first_above limit ns ≡ None → AllByRecursion (λ n. n ≤ limit) ns
-none_above limit [] e = tt
-none_above limit (n ∷ ns) e = go (nat_lt limit n) refl (none_above limit ns) e
-  where
-    go : (t : Bool) → nat_lt limit n ≡ t → (first_above limit ns ≡ None → AllByRecursion (λ n. n ≤ limit) ns) → cond t (Some n) (first_above limit ns) ≡ None → (n ≤ limit) × AllByRecursion (λ n. n ≤ limit) ns
-    go true test more e = absurd (cc)
-    go false test more e = (at_most limit n test, more e)
 
 above_none : (limit : ℕ) (ns : List ℕ) → AllByRecursion (λ n. n ≤ limit) ns → first_above limit ns ≡ None
 above_none limit [] all = refl

@@ -4,6 +4,7 @@ use Rattle.std.specs.List.{AllByRecursion, IsDistinct}
 use Rattle.std.specs.Str.{bytes_eq}
 use Rattle.std.proofs.lemmas.Slice.Eq.{bytes_eq-Decides}
 use Rattle.krml_trace.specs.Width.{bits}
+use Rattle.krml_trace.proofs.Lists.{take_front, at_front, contains_first, contains_later}
 use Rattle.krml_syntax.specs.declared.tree.IntTy.{IntTy}
 use Rattle.krml_syntax.specs.declared.tree.Ty.{Ty}
 use Rattle.krml_syntax.specs.declared.tree.Field.{Field}
@@ -24,14 +25,6 @@ use Rattle.krml_meaning.proofs.Facts.{InSum, IsFunction, Facts, same_struct, sam
 use Rattle.krml_meaning.proofs.Types.{name_same}
 
 -- ---- places
-
-pub take_front : {A : Type 0} (before rest : List A) → take (length before) (before ++ rest) ≡ before
-take_front [] rest = refl
-take_front (x ∷ before) rest = ap (λ z. x ∷ z) (take_front before rest)
-
-pub at_front : {A : Type 0} (before : List A) (x : A) (rest : List A) → slice_get (before ++ x ∷ rest) (length before) ≡ Some x
-at_front [] x rest = refl
-at_front (y ∷ before) x rest = at_front before x rest
 
 each_by_get : {A : Type 0} (P : A → Type 0) (xs : List A) → ((k : ℕ) (x : A) → slice_get xs k ≡ Some x → P x) → AllByRecursion P xs
 each_by_get P [] h = tt
@@ -264,12 +257,6 @@ place_last (d.Struct name vars fields ∷ before) after x e = place_last before 
 place_last (d.Table name ty nums ∷ before) after x e = place_last before after x e
 place_last (d.Fun name vars params result body ∷ before) after x e = place_last before after x e
 place_last (d.Entry name ∷ before) after x e = place_last before after x e
-
-pub contains_first : {A : Type 0} (x : A) (xs : List A) → Contains (x ∷ xs) x
-contains_first x xs = (0, omega arith, refl)
-
-pub contains_later : {A : Type 0} (y x : A) (xs : List A) → Contains xs x → Contains (y ∷ xs) x
-contains_later y x xs k = (suc k.0, let l = k.1 in omega (arith, l), k.2)
 
 -- a name that no definition gives means nothing
 unnamed : (before : List Def) (x : List ℕ) → (Contains (flat_map type_name before) x → ⊥) → type_named before x ≡ None

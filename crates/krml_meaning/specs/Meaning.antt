@@ -15,6 +15,7 @@ use Rattle.krml_trace.specs.declared.why.Why.TheVariants.{Stuck, Undefined}
 use Rattle.krml_trace.specs.Width.{bits, same_width}
 use Rattle.krml_trace.specs.Run.{Goes, bind, leave, ends, with_some, check, tick}
 use Rattle.krml_trace.specs.Loop.{Turn, Again, Over, loop}
+use Rattle.krml_trace.specs.Levels as levels
 use Rattle.krml_trace.specs.Levels.{within}
 use Rattle.krml_trace.specs.Blocks.{close_blocks}
 use Rattle.krml_trace.specs.Host as host
@@ -309,7 +310,7 @@ pub record Called : Type 0 where
 
 -- what calls mean
 abbrev pub Calls : Type 0
-Calls = Called → SourceState → SourceRan Value
+Calls = levels.Calls SourceEvent (List Block) Called Value
 
 -- (call f (T..) a..): a tick, and then the function
 abbrev pub call : Calls → List ℕ → List Ty → List Sem → Sem

@@ -23,16 +23,11 @@ use Rattle.krml_reader.specs.Expression.{variable_of, word_by, operands_by, appl
 use Rattle.krml_reader.proofs.KeywordLaws.{keyword_here, word_is}
 use Rattle.krml_reader.proofs.WordLaws.{name_of_again, name_again, int_here, number_again, length_again}
 use Rattle.krml_reader.proofs.TypeLaws.{ty_again, tys_again}
-use Rattle.krml_reader.proofs.PatternLaws.{pat_again}
+use Rattle.krml_reader.proofs.PatternLaws.{no_truth, pat_again}
 use Rattle.krml_reader.proofs.EachLaws.{one_after, none_after}
 use Rattle.krml_reader.proofs.Lasts.{split_last_again}
 
 -- ---- words
-
-no_truth : (b : Bool) → is_name (bool_word b) ≡ false
-unfolding is_name is_reserved
-no_truth true = refl
-no_truth false = refl
 
 no_unit : is_name (codes "unit") ≡ false
 unfolding is_name is_reserved

@@ -114,12 +114,12 @@ unfolding keyword_of
 truth_here true = refl
 truth_here false = refl
 
-no_truth : (b : Bool) → is_name (bool_word b) ≡ false
+-- true and false are no names
+pub no_truth : (b : Bool) → is_name (bool_word b) ≡ false
 unfolding is_name is_reserved
 no_truth true = refl
 no_truth false = refl
 
--- true and false are no names
 name_word : (x : List ℕ) → IsName x → word_by (keyword_of x) x ≡ bound_of x
 name_word x h = go (keyword_of x) refl
   where

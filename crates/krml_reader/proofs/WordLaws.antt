@@ -4,6 +4,7 @@ use Rattle.std.proofs.lemmas.Bool.Decides.{nat_tests}
 use Rattle.krml_trace.specs.declared.width.Width.{Width}
 use Rattle.krml_trace.specs.declared.width.Width.TheVariants.{W8, W32, W64}
 use Rattle.krml_trace.specs.Width.{bits}
+use Rattle.krml_trace.proofs.Widths.{below_all_widths}
 use Rattle.krml_forms.specs.declared.form.Form.{Form, out-Form}
 use Rattle.krml_forms.specs.declared.form.Form.TheOpen.{Form-F}
 use Rattle.krml_forms.specs.declared.form.Form.TheVariants.{Atom, outs-Atom}
@@ -82,15 +83,10 @@ number_only w f =
     let fits : n < 2 ^ bits w = grind (arith, nat_tests) in
     only_some n (subst (λ g. SpellsNumber w g n) (sym is.1) (SpellsNumber.number is.2 fits))))
 
-widest : (w : Width) (n : ℕ) → n < 2 ^ bits w → n < 2 ^ 64
-widest W8 n l = omega arith
-widest W32 n l = omega arith
-widest W64 n l = l
-
 pub number_again : (w : Width) {f : Form} {n : ℕ} → SpellsNumber w f n → number_of_width w f ≡ Some n
 number_again w (SpellsNumber.number {digits = d} {n = n} is l) =
     let small : nat_lt n (2 ^ bits w) ≡ true = grind (arith, nat_tests) in
-    rw (number_at_again d n is (widest w n l), small) refl
+    rw (number_at_again d n is (below_all_widths w n l), small) refl
 
 pub length_only : (f : Form) → Only (SpellsLength f) (length_at f)
 length_only f =

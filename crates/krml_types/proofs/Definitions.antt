@@ -31,7 +31,7 @@ use Rattle.krml_ast.proofs.Earlier.{Settled}
 use Rattle.krml_types.specs.Definitions.{is_fresh, distinct_names, is_given, is_new, all_new, are_fields, are_cons, all_fit, body_scope, is_of, is_body, is_int_in, is_outside_in, are_outside, is_answer_in, no_vars, is_entry, fun_ok, well_typed}
 use Rattle.krml_types.proofs.Parts.{value_is, value_again, below, below_again}
 use Rattle.krml_types.proofs.Decided.{same_decides, flat_decides, type_by_decides, among_decides_name, known}
-use Rattle.krml_types.proofs.Expressions.{type_only, type_again}
+use Rattle.krml_types.proofs.Expressions.{unit_is, type_only, type_again}
 use Rattle.krml_types.proofs.Earlier.{among_decides, among_flat}
 
 -- ---- tests and what they decide
@@ -107,13 +107,6 @@ fit_decides i nums = all_decide (λ n. nat_lt n (2 ^ bits i.width)) (λ n. n < 2
     (λ n. (below n (2 ^ bits i.width), below_again n (2 ^ bits i.width))) nums
 
 -- ---- functions
-
-unit_is : (a : Ty) → is_unit_in (out-Ty a) ≡ true → a ≡ t.Unit
-unit_is a h = go (out-Ty a) (λ q. sym (roll-out-Ty a) ∙ ap roll-Ty q ∙ t.rolls-Unit) h
-  where
-    go : (o : Ty-F Ty) → (o ≡ Ty-F.Unit → a ≡ t.Unit) → is_unit_in o ≡ true → a ≡ t.Unit
-    go Ty-F.Unit is k = is refl
-    go _ is k = absurd (cc)
 
 module _ (defs : List Def) (vars : List (List ℕ)) where
   params_decide : (params : List Field) → Decides (are_fields defs defs vars params) (AllByRecursion (λ p. IsType defs vars p.ty × IsValue p.ty) params)

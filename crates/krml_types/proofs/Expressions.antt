@@ -37,7 +37,7 @@ use Rattle.krml_types.proofs.Parts.{only_demand, only_at}
 use Rattle.krml_types.proofs.Patterns as pat
 
 -- a type of which the layer is known
-unit_is : (a : Ty) → is_unit_in (out-Ty a) ≡ true → a ≡ t.Unit
+pub unit_is : (a : Ty) → is_unit_in (out-Ty a) ≡ true → a ≡ t.Unit
 unit_is a h = go (out-Ty a) (λ q. sym (roll-out-Ty a) ∙ ap roll-Ty q ∙ t.rolls-Unit) h
   where
     go : (o : Ty-F Ty) → (o ≡ Ty-F.Unit → a ≡ t.Unit) → is_unit_in o ≡ true → a ≡ t.Unit

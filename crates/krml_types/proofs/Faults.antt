@@ -3,6 +3,7 @@ use Rattle.std.proofs.Common.{◌≡◌, ℕ, zero, suc, ◌+◌, ◌<◌, ◌�
 use Rattle.std.specs.Bool.{Decides}
 use Rattle.std.specs.List.{AllByRecursion, Contains}
 use Rattle.std.specs.Str.{bytes_eq}
+use Rattle.krml_trace.proofs.Lists.{take_front, at_front}
 use Rattle.krml_syntax.specs.declared.tree.Field.{Field}
 use Rattle.krml_syntax.specs.declared.tree.Def.{Def}
 use Rattle.krml_ast.specs.Names.{Struct, Sum, type_named}
@@ -52,14 +53,6 @@ settled_more defs before def s w = record { fields = λ x vars fields f is has. 
 
 -- ---- places
 
-take_front : {A : Type 0} (before rest : List A) → take (length before) (before ++ rest) ≡ before
-take_front [] rest = refl
-take_front (x ∷ before) rest = ap (λ z. x ∷ z) (take_front before rest)
-
-here : {A : Type 0} (before : List A) (x : A) (rest : List A) → slice_get (before ++ x ∷ rest) (length before) ≡ Some x
-here [] x rest = refl
-here (y ∷ before) x rest = here before x rest
-
 none_past : {A : Type 0} (xs : List A) (j : ℕ) → length xs ≤ j → slice_get xs j ≡ None
 none_past [] j l = refl
 none_past (x ∷ xs) zero l = absurd (omega (arith, l))
@@ -97,7 +90,7 @@ module _ (defs : List Def) where
       subst (λ z. Decides (well_typed defs z def) (WellTyped defs z def)) front whole
 
   at_place : (before rest : List Def) (def : Def) → before ++ def ∷ rest ≡ defs → slice_get defs (length before) ≡ Some def
-  at_place before rest def e = ap (λ z. slice_get z (length before)) (sym e) ∙ here before def rest
+  at_place before rest def e = ap (λ z. slice_get z (length before)) (sym e) ∙ at_front before def rest
 
   same_def : (a b : Def) (o : Option Def) → o ≡ Some a → o ≡ Some b → a ≡ b
   same_def a b o p q = cc

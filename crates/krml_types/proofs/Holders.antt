@@ -5,6 +5,7 @@ use Rattle.std.specs.List.{Contains}
 use Rattle.std.specs.Str.{bytes_eq}
 use Rattle.std.proofs.lemmas.Bool.{and_parts}
 use Rattle.std.proofs.lemmas.List.{length-map, length_push}
+use Rattle.krml_trace.proofs.Lists.{contains_first, contains_later}
 use Rattle.krml_syntax.specs.declared.tree.Ty.{Ty, out-Ty, roll-Ty, roll-out-Ty}
 use Rattle.krml_syntax.specs.declared.tree.Ty.TheOpen.{Ty-F}
 use Rattle.krml_syntax.specs.declared.tree.Ty.TheVariants as t
@@ -144,12 +145,6 @@ length_holders defs = length_rounds (length defs) defs (none_set defs) (length_n
 pub either : (b c : Bool) → (b || c) ≡ true → (b ≡ true) ⊎ (c ≡ true)
 either true c h = inl refl
 either false c h = inr h
-
-contains_first : {A : Type 0} (x : A) (xs : List A) → Contains (x ∷ xs) x
-contains_first x xs = (0, omega arith, refl)
-
-contains_later : {A : Type 0} (y x : A) (xs : List A) → Contains xs x → Contains (y ∷ xs) x
-contains_later y x xs h = (suc h.0, let l = h.1 in omega (arith, l), h.2)
 
 no_table : (def : Def) (ds : List Def) (x : List ℕ) → is_set (def ∷ ds) [] x ≡ false
 no_table (d.Struct name vars fields) ds x = refl

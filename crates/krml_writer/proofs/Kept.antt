@@ -16,6 +16,7 @@ use Rattle.krml_forms.proofs.Layer.{atom_within, list_within, list_inside, count
 use Rattle.krml_syntax.specs.Limits.{word_length, level_word_lengths, word_lengths, is_alloc_in, own_length, level_alloc_lengths, alloc_lengths, first_above}
 use Rattle.krml_syntax.specs.Number.{IsNumber, number_of, number_at}
 use Rattle.krml_syntax.proofs.Numbers.{number_at_again}
+use Rattle.krml_syntax.proofs.Limits.{elements_of_atom, elements_of_list}
 use Rattle.krml_writer.proofs.Alike.{Alike, AllAlike}
 use Rattle.krml_writer.proofs.WordBytes.{decimal_is_word}
 
@@ -153,32 +154,11 @@ same_own_length : {fs gs : List Form} → AllAlike fs gs → own_length fs ≡ o
 same_own_length (AllAlike.one a (AllAlike.one b (AllAlike.one c (AllAlike.one d AllAlike.none)))) = rw (same_head a, same_number c) refl
 same_own_length _ = refl
 
-abbrev with_lengths : List Form → List (Form × List ℕ)
-with_lengths fs = map (λ f. (f, alloc_lengths f)) fs
-
-allocs_of : (f : Form) → alloc_lengths f ≡ alloc_lengths (roll-Form (out-Form f))
-allocs_of f = ap alloc_lengths (sym (roll-out-Form f))
-
-allocs_of_atom : (w : List ℕ) → alloc_lengths (Atom w) ≡ []
-allocs_of_atom w = rw (allocs_of (Atom w), para-roll-Form (List ℕ) level_alloc_lengths (out-Form (Atom w)), outs-Atom w) refl
-
-first_of_each : (fs : List Form) → map (λ x. x.0) (with_lengths fs) ≡ fs
-first_of_each [] = refl
-first_of_each (f ∷ fs) = ap (λ gs. f ∷ gs) (first_of_each fs)
-
-second_of_each : (fs : List Form) → flat_map (λ x. x.1) (with_lengths fs) ≡ flat_map alloc_lengths fs
-second_of_each [] = refl
-second_of_each (f ∷ fs) = ap (λ ns. alloc_lengths f ++ ns) (second_of_each fs)
-
-allocs_of_list : (fs : List Form) → alloc_lengths (Node fs) ≡ own_length fs ++ flat_map alloc_lengths fs
-allocs_of_list fs =
-    rw (allocs_of (Node fs), para-roll-Form (List ℕ) level_alloc_lengths (out-Form (Node fs)), outs-List fs, first_of_each fs, second_of_each fs) refl
-
 mutual
   pub same_allocs : {f g : Form} → Alike f g → alloc_lengths f ≡ alloc_lengths g
   same_allocs (Alike.word h) = refl
-  same_allocs (Alike.number {w = w} {n = n} is l) = allocs_of_atom w ∙ sym (allocs_of_atom (decimal n))
-  same_allocs (Alike.list {fs = fs} {gs = gs} a) = rw (allocs_of_list fs, allocs_of_list gs, same_own_length a, all_same_allocs a) refl
+  same_allocs (Alike.number {w = w} {n = n} is l) = elements_of_atom w ∙ sym (elements_of_atom (decimal n))
+  same_allocs (Alike.list {fs = fs} {gs = gs} a) = rw (elements_of_list fs, elements_of_list gs, same_own_length a, all_same_allocs a) refl
 
   all_same_allocs : {fs gs : List Form} → AllAlike fs gs → flat_map alloc_lengths fs ≡ flat_map alloc_lengths gs
   all_same_allocs AllAlike.none = refl

@@ -2,6 +2,7 @@
 use Rattle.std.proofs.Common.{ℕ, List, [], ◌∷◌, map, codes, refl, arith}
 use Rattle.krml_trace.specs.declared.width.Width.{Width}
 use Rattle.krml_trace.specs.Name.{IsName}
+use Rattle.krml_trace.proofs.Widths.{below_all_widths}
 use Rattle.krml_forms.specs.declared.form.Form.{Form}
 use Rattle.krml_forms.specs.declared.form.Form.TheVariants.{Atom, List as Node}
 use Rattle.krml_syntax.specs.declared.tree.IntTy.{IntTy}
@@ -25,7 +26,7 @@ use Rattle.krml_forms.specs.Writing.{IsWord}
 use Rattle.krml_syntax.specs.Spelling.{int_word, bin_word, shift_word, cmp_word, Each, SpellsVar, SpellsNumber, SpellsLength, SpellsTy, SpellsTys, SpellsPat, SpellsPats, Spells, SpellsAll, SpellsArm, SpellsArms, SpellsItem, SpellsItems, SpellsField, SpellsCon, SpellsDef, SpellsDefs}
 use Rattle.krml_writer.specs.Written.{form_of_ty, form_of_pat, form_of_expr, form_of_item, form_of_arm, form_of_var, form_of_number, form_of_field, form_of_con, form_of_def}
 use Rattle.krml_writer.proofs.Alike.{Alike, AllAlike, all_both}
-use Rattle.krml_writer.proofs.WordBytes.{name_is_word, variable_is_word, int_is_word, bool_is_word, bin_is_word, shift_is_word, cmp_is_word, below_all_widths}
+use Rattle.krml_writer.proofs.WordBytes.{name_is_word, variable_is_word, int_is_word, bool_is_word, bin_is_word, shift_is_word, cmp_is_word}
 
 -- ---- rows of forms
 

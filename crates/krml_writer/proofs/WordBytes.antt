@@ -111,8 +111,3 @@ some_is_word (b ∷ bs) l h = h
 
 pub decimal_is_word : (n : ℕ) → n < 2 ^ 64 → IsWord (decimal n)
 decimal_is_word n l = some_is_word (decimal n) (decimal_nonempty n l) (digits_in_word (decimal n) (digits_decimal own n l))
-
-pub below_all_widths : (w : Width) (n : ℕ) → n < 2 ^ bits w → n < 2 ^ 64
-below_all_widths W8 n l = omega arith
-below_all_widths W32 n l = omega arith
-below_all_widths W64 n l = l

@@ -3,8 +3,8 @@ use Rattle.std.specs.List.{flat_map}
 use Rattle.krml_forms.specs.declared.form.Form.{Form}
 use Rattle.krml_forms.specs.declared.form.Form.TheVariants.{List as Node}
 use Rattle.krml_syntax.specs.Limits.{first_above, own_length, alloc_lengths}
+use Rattle.krml_syntax.proofs.Limits.{elements_of_atom, elements_of_list}
 use Rattle.krml_limits.proofs.Above.{above_here, above_after, loop_finds, loop_goes}
-use Rattle.krml_limits.proofs.Levels.{elements_of_atom, elements_of_list}
 use Rattle.krml_limits.proofs.elements.+elements.Goals as goal
 
 pub long_alloc-returns-in-Atom : goal.long_alloc-returns-in-Atom

@@ -1,8 +1,8 @@
 use Rattle.std.proofs.Common.{sym, ap, ◌∙◌}
 use Rattle.std.specs.List.{flat_map}
 use Rattle.krml_syntax.specs.Limits.{first_above, word_lengths}
+use Rattle.krml_syntax.proofs.Limits.{words_of_list}
 use Rattle.krml_limits.proofs.Above.{loop_finds, loop_goes}
-use Rattle.krml_limits.proofs.Levels.{words_of_list}
 use Rattle.krml_limits.proofs.words.+words.Goals as goal
 
 pub long_word-returns-in-List : goal.long_word-returns-in-List

@@ -1,10 +1,11 @@
--- What is counted in a form, level by level.
-use Rattle.std.proofs.Common.{◌≡◌, ℕ, List, [], ◌∷◌, ◌++◌, map, refl, sym, ap, ◌∙◌}
-use Rattle.std.specs.List.{flat_map}
+-- What limits count in a form, level by level, and counts that are not above a limit.
+use Rattle.std.proofs.Common.{◌≡◌, ℕ, ◌≤◌, Bool, true, false, if◌then◌else◌, nat_lt, List, [], ◌∷◌, ◌++◌, map, Some, None, refl, sym, ap, ◌∙◌, arith}
+use Rattle.std.specs.List.{AllByRecursion, flat_map}
+use Rattle.std.proofs.lemmas.Bool.Decides.{nat_tests}
 use Rattle.krml_forms.specs.declared.form.Form.{Form, out-Form, roll-out-Form}
 use Rattle.krml_forms.specs.declared.form.Form.TheVariants.{Atom, List as Node, outs-Atom, outs-List}
 use Rattle.krml_forms.specs.declared.form.Form.TheFolds.{para-roll-Form, map-Form, fold_out-Form}
-use Rattle.krml_syntax.specs.Limits.{level_word_lengths, word_lengths, own_length, level_alloc_lengths, alloc_lengths}
+use Rattle.krml_syntax.specs.Limits.{level_word_lengths, word_lengths, own_length, level_alloc_lengths, alloc_lengths, first_above}
 
 -- ---- words
 
@@ -39,3 +40,15 @@ elements_of_list fs =
     level (Node fs) ∙ ap (λ x. level_alloc_lengths (map-Form Form (Form × List ℕ) with_lengths x)) (outs-List fs)
     ∙ ap (λ gs. own_length gs ++ flat_map (λ x. x.1) (map with_lengths fs)) (forms fs)
     ∙ ap (λ ns. own_length fs ++ ns) (lengths fs)
+
+-- ---- counts above a limit
+
+-- no count is above a limit where none is the first
+pub none_above : (limit : ℕ) (ns : List ℕ) → first_above limit ns ≡ None → AllByRecursion (λ n. n ≤ limit) ns
+none_above limit [] e = tt
+none_above limit (n ∷ ns) e = go (nat_lt limit n) refl (none_above limit ns) e
+  where
+    go : (b : Bool) → nat_lt limit n ≡ b → (first_above limit ns ≡ None → AllByRecursion (λ n. n ≤ limit) ns) → (if b then Some n else first_above limit ns) ≡ None
+        → (n ≤ limit) × AllByRecursion (λ n. n ≤ limit) ns
+    go true test more e = absurd (cc)
+    go false test more e = (grind (arith, nat_tests), more e)
