@@ -23,8 +23,11 @@ use Rattle.krml_ctree.specs.declared.tree.CProgram.{CProgram}
 use Rattle.krml_ctree.specs.Parts.{Locals}
 use Rattle.krml_ctree.specs.Meaning as tgt
 use Rattle.krml_cstar.specs.Built.{AreBuilt}
+use Rattle.krml_cstar.specs.Variables as variables
 use Rattle.krml_cstar.specs.Translation as code
-use Rattle.krml_cstar.specs.Translation.{Known, Names, Comp, ItemComp, ctype, named, is_unit}
+use Rattle.krml_cstar.specs.Types.{ctype, is_unit}
+use Rattle.krml_cstar.specs.Variables.{Known, KnownVars, named}
+use Rattle.krml_cstar.specs.Translation.{Comp, ItemComp}
 use Rattle.krml_cstar.proofs.Images.{image_at, the_image, state_image, Sim}
 use Rattle.krml_cstar.proofs.Part.{erased_built, type_at_built}
 use Rattle.krml_cstar.proofs.Typed.{image_typed}
@@ -35,7 +38,7 @@ use Rattle.krml_cstar.proofs.Forms.{stands_on, exec, in_turn, made, decl_then, p
 
 module _ (defs : List Def) (built : AreBuilt defs) (p : CProgram) (calls : tgt.Calls) where
   -- After the code of items: what was before is kept, and the scope of what follows is carried.
-  pub record GoodItems (n : ℕ) (before : Locals) (names : Names) (m : ℕ) (env : Env) (now : Locals) : Type 0 where
+  pub record GoodItems (n : ℕ) (before : Locals) (names : KnownVars) (m : ℕ) (env : Env) (now : Locals) : Type 0 where
     pub keeps : Keeps n before now
     pub below : Below m now
     pub scoped : Scoped defs m env.vars names now
@@ -43,9 +46,9 @@ module _ (defs : List Def) (built : AreBuilt defs) (p : CProgram) (calls : tgt.C
   -- Items lead from a scope to the scope of what follows, and their code does what they do.
   pub record FitItems (vars inner : Vars) (items : List src.Step) (co : ItemComp) : Type 0 where
     pub sound : SoundSteps defs (In defs vars) (In defs inner) items
-    pub grows : (names : Names) (n : ℕ) → n ≤ (co names n).next
-    pub named : (names : Names) (n : ℕ) → Named vars names → Named inner (co names n).names
-    pub sim : (env : Env) (names : Names) (n : ℕ) (now : Locals) (s : SourceState) → (co names n).next ≤ 2 ^ 64 → Stands defs vars names n now env s
+    pub grows : (names : KnownVars) (n : ℕ) → n ≤ (co names n).next
+    pub named : (names : KnownVars) (n : ℕ) → Named vars names → Named inner (co names n).names
+    pub sim : (env : Env) (names : KnownVars) (n : ℕ) (now : Locals) (s : SourceState) → (co names n).next ≤ 2 ^ 64 → Stands defs vars names n now env s
         → Sim defs (GoodItems n now (co names n).names (co names n).next) (src.steps items env s) (exec defs p calls (co names n).code now (state_image defs s))
 
   pub no_items_fit : (vars : Vars) → FitItems vars vars [] (code.items [])
@@ -63,7 +66,7 @@ module _ (defs : List Def) (built : AreBuilt defs) (p : CProgram) (calls : tgt.C
       (refl, subst (HasShape defs m y) (sym (type_at_built [] [] a part.built)) h, tt) r
 
   -- Where a variable of C has the value of a further variable of the source.
-  pub stands_known : (vars : Vars) (names : Names) (m : ℕ) (now : Locals) (env : Env) (s : SourceState) (x z : List ℕ) (a : Ty) (y : Value) → IsPart p a → HasShape defs s.memory y a
+  pub stands_known : (vars : Vars) (names : KnownVars) (m : ℕ) (now : Locals) (env : Env) (s : SourceState) (x z : List ℕ) (a : Ty) (y : Value) → IsPart p a → HasShape defs s.memory y a
       → number_of z < m → tgt.var z [] now ≡ Some (image_at defs y a) → Stands defs vars names m now env s
       → Stands defs ((x, a) ∷ vars) (record { name = x; emitted = z; ty = a } ∷ names) m now (with_vars ((x, y) ∷ []) env) s
   stands_known vars names m now env s x z a y part shape lt value h = record {
@@ -75,14 +78,14 @@ module _ (defs : List Def) (built : AreBuilt defs) (p : CProgram) (calls : tgt.C
   }
     where
       -- the new name, or one from before
-      go : (q : List ℕ) (k : Known) (same : Bool) → bytes_eq x q ≡ same → (if same then Some (record { name = x; emitted = z; ty = a }) else code.look names q) ≡ Some k
+      go : (q : List ℕ) (k : Known) (same : Bool) → bytes_eq x q ≡ same → (if same then Some (record { name = x; emitted = z; ty = a }) else variables.look names q) ≡ Some k
           → Carries defs m ((x, y) ∷ env.vars) q k now
       go q k true is e = subst (λ (w : Known). Carries defs m ((x, y) ∷ env.vars) q w now) (same_some (record { name = x; emitted = z; ty = a }) k e)
           (record { found = y; is = rw is refl; below = lt; value = value ∙ ap (λ w. Some (image_at defs y w)) (sym (erased_built a part.built)) })
       go q k false is e = let c = h.scoped q k e in record { found = c.found; is = rw is c.is; below = c.below; value = c.value }
 
   -- and where that is a new variable of C, with the number n
-  pub stands_more : (vars : Vars) (names : Names) (n : ℕ) (now : Locals) (env : Env) (s : SourceState) (x : List ℕ) (a : Ty) (y : Value) → n < 2 ^ 64 → IsPart p a
+  pub stands_more : (vars : Vars) (names : KnownVars) (n : ℕ) (now : Locals) (env : Env) (s : SourceState) (x : List ℕ) (a : Ty) (y : Value) → n < 2 ^ 64 → IsPart p a
       → HasShape defs s.memory y a → Stands defs vars names n now env s
       → Stands defs ((x, a) ∷ vars) (record { name = x; emitted = named n x; ty = a } ∷ names) (n + 1)
       (made defs p calls (record { ty = ctype a; name = named n x }) (image_at defs y a) ∷ now) (with_vars ((x, y) ∷ []) env) s
@@ -112,7 +115,7 @@ module _ (defs : List Def) (built : AreBuilt defs) (p : CProgram) (calls : tgt.C
         let m = o.next in
         let y : List ℕ = named m x in
         let d : CVar = record { ty = ctype a; name = y } in
-        let names1 : Names = record { name = x; emitted = y; ty = a } ∷ names in
+        let names1 : KnownVars = record { name = x; emitted = y; ty = a } ∷ names in
         let os = code.items cos names1 (m + 1) in
         let g = h.grows names n in
         let gs = hs.grows names1 (m + 1) in

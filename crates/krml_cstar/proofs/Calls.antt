@@ -36,8 +36,11 @@ use Rattle.krml_ctree.specs.Meaning as tgt
 use Rattle.krml_ctree.specs.Meaning.{blank_local}
 use Rattle.krml_ctree.proofs.Forms as forms
 use Rattle.krml_cstar.specs.Built.{AreBuilt}
+use Rattle.krml_cstar.specs.Variables as variables
 use Rattle.krml_cstar.specs.Translation as code
-use Rattle.krml_cstar.specs.Translation.{Comp, ctype, plain, is_unit, gives, does, nothing, params_from, cvars, fun_code}
+use Rattle.krml_cstar.specs.Types.{ctype, is_unit}
+use Rattle.krml_cstar.specs.Variables.{plain}
+use Rattle.krml_cstar.specs.Translation.{Comp, gives, does, nothing, params_from, cvars, fun_code}
 use Rattle.krml_cstar.proofs.Images.{image_at, images_at, the_image, state_image, Sim}
 use Rattle.krml_cstar.proofs.Lookups.{Lookups}
 use Rattle.krml_cstar.proofs.Part.{FunctionBuilt, function_built, table_built, erased_built, at_built, public_same, types_here}
@@ -62,13 +65,13 @@ module _ (defs : List Def) (typed : AreWellTyped defs) (built : AreBuilt defs) (
 
   -- a new variable of the number n has its value
   new_good : (n m : ℕ) (before now : Locals) (a : Ty) (x : Value) (ty : _) → n ≤ m → m < 2 ^ 64 → Keeps n before now → Below m now
-      → Good defs p calls n before (c.Var (plain m)) (m + 1) a x (made defs p calls (code.var m ty) (image_at defs x a) ∷ now)
+      → Good defs p calls n before (c.Var (plain m)) (m + 1) a x (made defs p calls (variables.var m ty) (image_at defs x a) ∷ now)
   new_good n m before now a x ty le small kept be =
       let y : List ℕ = plain m in
       let nr : number_of y ≡ m = number-plain m small in
       let ge : m ≤ number_of y = omega (arith, nr) in
       let lt : number_of y < m + 1 = omega (arith, nr) in
-      let l = made defs p calls (code.var m ty) (image_at defs x a) in
+      let l = made defs p calls (variables.var m ty) (image_at defs x a) in
       record {
         keeps = keeps_then n m before now (l ∷ now) le kept (keeps_new m l now ge);
         below = (lt, below_more m (m + 1) now (omega arith) be);
@@ -91,7 +94,7 @@ module _ (defs : List Def) (typed : AreWellTyped defs) (built : AreBuilt defs) (
         let m = o.next in
         let g = h.grows names n in
         let small_m : m < 2 ^ 64 = omega (arith, small) in
-        let d : CVar = code.var m (ctype (t.Int i)) in
+        let d : CVar = variables.var m (ctype (t.Int i)) in
         let f = (facts defs typed).table x i is in
         let table = f.table in
         let Q = Good defs p calls n now (c.Var (plain m)) (m + 1) (int_ty i) in
@@ -116,7 +119,7 @@ module _ (defs : List Def) (typed : AreWellTyped defs) (built : AreBuilt defs) (
   })
     where
       of_type : Ty → Comp
-      of_type r = gives (code.operand co (λ a names n. record { code = st.Tab (code.var n (ctype r)) x a.value ∷ []; value = c.Var (plain n); ty = r; next = n + 1 }))
+      of_type r = gives (code.operand co (λ a names n. record { code = st.Tab (variables.var n (ctype r)) x a.value ∷ []; value = c.Var (plain n); ty = r; next = n + 1 }))
 
   -- ---- calls
 
@@ -178,7 +181,7 @@ module _ (defs : List Def) (typed : AreWellTyped defs) (built : AreBuilt defs) (
           let m = os.next in
           let g = hs.grows names n in
           let small_m : m < 2 ^ 64 = omega (arith, small) in
-          let d : CVar = code.var m (ctype f.result) in
+          let d : CVar = variables.var m (ctype f.result) in
           let Q = Good defs p calls n now (c.Var (plain m)) (m + 1) f.result in
           all_then defs p calls vars (param_types f.params) evs cos hs env names n now s (omega (arith, small_m)) here Q (st.Call d x os.values ∷ [])
           (λ xs s1. tick s1 (λ s2. source (record { name = x; types = []; values = xs }) s2)) (λ xs late s1 k.

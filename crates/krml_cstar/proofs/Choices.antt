@@ -30,8 +30,11 @@ use Rattle.krml_ctree.specs.Meaning as tgt
 use Rattle.krml_ctree.specs.Meaning.{blank_local}
 use Rattle.krml_ctree.proofs.Forms as forms
 use Rattle.krml_cstar.specs.Built.{AreBuilt}
+use Rattle.krml_cstar.specs.Variables as variables
 use Rattle.krml_cstar.specs.Translation as code
-use Rattle.krml_cstar.specs.Translation.{Names, Comp, ctype, plain, is_unit, nothing}
+use Rattle.krml_cstar.specs.Types.{ctype, is_unit}
+use Rattle.krml_cstar.specs.Variables.{KnownVars, plain}
+use Rattle.krml_cstar.specs.Translation.{Comp, nothing}
 use Rattle.krml_cstar.proofs.Images.{image_at, the_image, state_image, Sim}
 use Rattle.krml_cstar.proofs.Typed.{image_typed}
 use Rattle.krml_cstar.proofs.VariableNames.{number_of, number-plain}
@@ -66,7 +69,7 @@ module _ (defs : List Def) (built : AreBuilt defs) (p : CProgram) (calls : tgt.C
     pub is : now ≡ set y (image_at defs x a) late
 
   -- A branch, whose code begins at j: the variable of the result, with a number k from n on and below j, has its value then.
-  branch_fits : (vars : Vars) (a : Ty) (ev : Sem) (co : Comp) → Fits defs p calls vars a ev co → is_unit a ≡ false → (env : Env) (names : Names) (n k j m : ℕ) (d : CVar) (now now2 : Locals)
+  branch_fits : (vars : Vars) (a : Ty) (ev : Sem) (co : Comp) → Fits defs p calls vars a ev co → is_unit a ≡ false → (env : Env) (names : KnownVars) (n k j m : ℕ) (d : CVar) (now now2 : Locals)
       (s : SourceState) → number_of d.name ≡ k → d.ty ≡ ctype a → n ≤ k → k < j → (co.run names j).next ≤ m → m ≤ 2 ^ 64 → Keeps n now now2 → Below (k + 1) now2
       → all_named d.name now2 ≡ blank_local d ∷ [] → Stands defs vars names j now2 env s
       → Sim defs (Good defs p calls n now (c.Var d.name) m a) (ev env s)
@@ -99,7 +102,7 @@ module _ (defs : List Def) (built : AreBuilt defs) (p : CProgram) (calls : tgt.C
       })))
 
   -- a branch that gives nothing
-  branch_unit : (vars : Vars) (a : Ty) (ev : Sem) (co : Comp) → Fits defs p calls vars a ev co → is_unit a ≡ true → (env : Env) (names : Names) (n k j m : ℕ) (now now2 : Locals)
+  branch_unit : (vars : Vars) (a : Ty) (ev : Sem) (co : Comp) → Fits defs p calls vars a ev co → is_unit a ≡ true → (env : Env) (names : KnownVars) (n k j m : ℕ) (now now2 : Locals)
       (s : SourceState) → n ≤ j → k ≤ m → (co.run names j).next ≤ m → m ≤ 2 ^ 64 → Keeps n now now2 → Below k now2 → Stands defs vars names j now2 env s
       → Sim defs (Good defs p calls n now nothing m a) (ev env s) (tgt.braces (steps_of (co.run names j).code) now2 (state_image defs s))
   branch_unit vars a ev co h isu env names n k j m now now2 s le k_m small_m small kept be here =
@@ -148,7 +151,7 @@ module _ (defs : List Def) (built : AreBuilt defs) (p : CProgram) (calls : tgt.C
           let small_r : r < 2 ^ 64 = omega (arith, g', g'', small) in
           let y : List ℕ = plain r in
           let nr : number_of y ≡ r = number-plain r small_r in
-          let d : CVar = code.var r (ctype o'.ty) in
+          let d : CVar = variables.var r (ctype o'.ty) in
           let same : ctype o'.ty ≡ ctype a = ap ctype (h'.typed names (r + 1) here.named) in
           let Q = Good defs p calls n now (c.Var y) o''.next a in
           part_then defs p calls vars t.Bool ev co h env names n now s (omega (arith, small_r)) here Q

@@ -11,6 +11,8 @@ use Rattle.krml_syntax.specs.declared.tree.Expr.{Expr}
 use Rattle.krml_syntax.specs.declared.tree.Expr.TheVariants as e
 use Rattle.krml_syntax.specs.declared.tree.Expr.TheFolds.{fold-Item, fold_out-Expr, fold_out-Item}
 use Rattle.krml_syntax.specs.declared.tree.Def.{Def}
+use Rattle.krml_cstar.specs.Variables as variables
+use Rattle.krml_cstar.specs.Numbers as numbers
 use Rattle.krml_cstar.specs.Translation as code
 use Rattle.krml_cstar.specs.Translation.{Comp, ItemComp, code_of, gives, does, value, code_step, item_step}
 
@@ -18,16 +20,16 @@ module _ (defs : List Def) where
   abbrev pub item_code : Item → ItemComp
   item_code = fold-Item Comp ItemComp (Unit {0}) (Unit {0}) (code_step defs) item_step (λ x. tt) (λ x. tt)
 
-  pub var_is : (x : List ℕ) → code_of defs (e.Var x) ≡ gives (λ names n. code.variable (code.look names x) names n)
+  pub var_is : (x : List ℕ) → code_of defs (e.Var x) ≡ gives (λ names n. code.variable (variables.look names x) names n)
   var_is x = rw (fold_out-Expr, e.outs-Var)
 
   pub unit_is : code_of defs e.Unit ≡ does (value ty.Unit code.nothing)
   unit_is = rw (fold_out-Expr, e.outs-Unit)
 
-  pub bool_is : (b : Bool) → code_of defs (e.Bool b) ≡ gives (value ty.Bool (code.truth b))
+  pub bool_is : (b : Bool) → code_of defs (e.Bool b) ≡ gives (value ty.Bool (numbers.truth b))
   bool_is b = rw (fold_out-Expr, e.outs-Bool)
 
-  pub num_is : (i : IntTy) (n : ℕ) → code_of defs (e.Num i n) ≡ gives (value (ty.Int i) (code.literal i.width n))
+  pub num_is : (i : IntTy) (n : ℕ) → code_of defs (e.Num i n) ≡ gives (value (ty.Int i) (numbers.literal i.width n))
   num_is i n = rw (fold_out-Expr, e.outs-Num)
 
   pub bin_is : (o : BinOp) (i : IntTy) (a b : Expr) → code_of defs (e.Bin o i a b) ≡ gives (code.operands (code_of defs a) (code_of defs b) (code.binary o i))

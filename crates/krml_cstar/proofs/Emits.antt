@@ -26,7 +26,9 @@ use Rattle.krml_ctree.specs.declared.tree.CStatement.TheVariants as st
 use Rattle.krml_cstar.specs.declared.emitter.Emitter.{Emitter}
 use Rattle.krml_cstar.specs.declared.given.Given.{Given}
 use Rattle.krml_cstar.specs.declared.given.Apart.{Apart}
-use Rattle.krml_cstar.specs.Translation.{Names, Known, Out, Outs, Comp, ItemComp, ItemOut, gives, does, value, nothing, operands, operand, binary, shifted, compared, looked_up, choice, block, while, for, call, ran, called, all, items, item_step, bound, code_of, result_of, is_unit, ctype, plain, named, var, arm, into, stepped}
+use Rattle.krml_cstar.specs.Types.{is_unit, ctype}
+use Rattle.krml_cstar.specs.Variables.{KnownVars, Known, plain, named, var}
+use Rattle.krml_cstar.specs.Translation.{Out, Outs, Comp, ItemComp, ItemOut, gives, does, value, nothing, operands, operand, binary, shifted, compared, looked_up, choice, block, while, for, call, ran, called, all, items, item_step, bound, code_of, result_of, arm, into, stepped}
 use Rattle.krml_cstar.specs.Scopes.{cut}
 use Rattle.krml_cstar.specs.Emitting.{item_code, behind, after, after_all, after_items, beside, given, apart, alone, calling}
 use Rattle.krml_cstar.proofs.Scopes.{cut_off}
@@ -34,18 +36,18 @@ use Rattle.krml_cstar.proofs.Scopes.{cut_off}
 -- ---- scopes behind items
 
 -- what an item adds to the variables in scope
-record Adds (before now : Names) : Type 0 where
-  more : Names
+record Adds (before now : KnownVars) : Type 0 where
+  more : KnownVars
   is : now ≡ more ++ before
 
-adds_more : {xs ys zs : Names} → Adds xs ys → Adds ys zs → Adds xs zs
+adds_more : {xs ys zs : KnownVars} → Adds xs ys → Adds ys zs → Adds xs zs
 adds_more {xs} {ys} {zs} a b = record { more = b.more ++ a.more; is = b.is ∙ ap (λ ns. b.more ++ ns) a.is ∙ sym (append_assoc b.more a.more xs) }
 
-item_adds : (y : Item-F Comp ItemComp (Unit {0}) (Unit {0})) (names : Names) (n : ℕ) → Adds names (item_step y names n).names
+item_adds : (y : Item-F Comp ItemComp (Unit {0}) (Unit {0})) (names : KnownVars) (n : ℕ) → Adds names (item_step y names n).names
 item_adds (Item-F.Let x a e) names n = record { more = record { name = x; emitted = _; ty = a } ∷ []; is = refl }
 item_adds (Item-F.Run e) names n = record { more = []; is = refl }
 
-items_add : (defs : List Def) (is : List Item) (names : Names) (n : ℕ) → Adds names (items (map (item_code defs) is) names n).names
+items_add : (defs : List Def) (is : List Item) (names : KnownVars) (n : ℕ) → Adds names (items (map (item_code defs) is) names n).names
 items_add defs [] names n = record { more = []; is = refl }
 items_add defs (i ∷ is) names n =
     let o : ItemOut = item_code defs i names n in
@@ -53,13 +55,13 @@ items_add defs (i ∷ is) names n =
     adds_more first (items_add defs is o.names o.next)
 
 -- the variables of items go out of scope
-pub scope_back : (defs : List Def) (is : List Item) (names : Names) (n : ℕ) → cut (length names) (items (map (item_code defs) is) names n).names ≡ names
+pub scope_back : (defs : List Def) (is : List Item) (names : KnownVars) (n : ℕ) → cut (length names) (items (map (item_code defs) is) names n).names ≡ names
 scope_back defs is names n =
     let a : Adds names (items (map (item_code defs) is) names n).names = items_add defs is names n in
     ap (cut (length names)) a.is ∙ cut_off a.more names
 
 -- the variable of a loop goes out of scope
-pub one_back : (k : Known) (names : Names) → cut (length names) (k ∷ names) ≡ names
+pub one_back : (k : Known) (names : KnownVars) → cut (length names) (k ∷ names) ≡ names
 one_back k names = cut_off (k ∷ []) names
 
 -- ---- what expressions become
@@ -103,7 +105,7 @@ three cs xs ys zs = ap (λ (before : List CStatement). before ++ zs) (append_ass
 -- Where the emitter gives an answer, its parts did: their results are premises, with what each of them says of its own Ok.
 
 -- two operands and what is made of them
-pub two_state : {E : Type 0} (ca cb : List Def → Comp) (f : CExpr → CExpr → Names → ℕ → Out) (k : Comp) (m m1 m2 m3 : Emitter) (r ra rb : Result Given E)
+pub two_state : {E : Type 0} (ca cb : List Def → Comp) (f : CExpr → CExpr → KnownVars → ℕ → Out) (k : Comp) (m m1 m2 m3 : Emitter) (r ra rb : Result Given E)
     → k ≡ gives (operands (ca m.defs.now) (cb m.defs.now) f)
     → OnOk ra (m1 ≡ after (ca m.defs.now) m) → IfOk ra (λ g. g ≡ given ((ca m.defs.now).run m.scope m.next))
     → OnOk rb (m2 ≡ after (cb m1.defs.now) m1) → IfOk rb (λ g. g ≡ given ((cb m1.defs.now).run m1.scope m1.next))
@@ -118,8 +120,8 @@ two_state ca cb f k m m1 m2 m3 (Ok g) (Ok a) (Err x) is h1 ha h2 hb h3 = absurd 
 two_state ca cb f k m m1 m2 m3 (Ok g) (Err x) rb is h1 ha h2 hb h3 = absurd h3
 two_state ca cb f k m m1 m2 m3 (Err x) ra rb is h1 ha h2 hb h3 = tt
 
-pub two_value : {E : Type 0} (ca cb : List Def → Comp) (f : CExpr → CExpr → Names → ℕ → Out) (k : Comp) (t : Ty) (m m1 m2 : Emitter) (r ra rb : Result Given E)
-    → k ≡ gives (operands (ca m.defs.now) (cb m.defs.now) f) → ((a b : CExpr) (names : Names) (n : ℕ) → (f a b names n).ty ≡ t)
+pub two_value : {E : Type 0} (ca cb : List Def → Comp) (f : CExpr → CExpr → KnownVars → ℕ → Out) (k : Comp) (t : Ty) (m m1 m2 : Emitter) (r ra rb : Result Given E)
+    → k ≡ gives (operands (ca m.defs.now) (cb m.defs.now) f) → ((a b : CExpr) (names : KnownVars) (n : ℕ) → (f a b names n).ty ≡ t)
     → OnOk ra (m1 ≡ after (ca m.defs.now) m) → IfOk ra (λ g. g ≡ given ((ca m.defs.now).run m.scope m.next))
     → OnOk rb (m2 ≡ after (cb m1.defs.now) m1) → IfOk rb (λ g. g ≡ given ((cb m1.defs.now).run m1.scope m1.next))
     → IfOk r (λ g. IsOkAnd ra (λ a. IsOkAnd rb (λ b. g ≡ record { value = (f a.value b.value m2.scope m2.next).value; ty = t })))
@@ -148,7 +150,7 @@ two_alone ca cb t f k m m1 m2 (Ok g) (Err x) rb is h1 h2 h3 = absurd h3
 two_alone ca cb t f k m m1 m2 (Err x) ra rb is h1 h2 h3 = tt
 
 -- the type of what an operator gives
-pub binary_ty : (o : BinOp) (i : IntTy) (a b : CExpr) (names : Names) (n : ℕ) → (binary o i a b names n).ty ≡ ty.Int i
+pub binary_ty : (o : BinOp) (i : IntTy) (a b : CExpr) (names : KnownVars) (n : ℕ) → (binary o i a b names n).ty ≡ ty.Int i
 binary_ty op.Add i a b names n = refl
 binary_ty op.Sub i a b names n = refl
 binary_ty op.Mul i a b names n = refl
@@ -256,7 +258,7 @@ pub do_state : {E U : Type 0} (ca : List Def → Comp) (items_in : List Item) (k
 do_state ca items_in k m m1 m2 m3 len (Ok g) (Ok a) (Ok u) is hl h1 h2 h3 hg =
     let oi : ItemOut = items (map (item_code m.defs.now) items_in) m.scope m.next in
     let oa : Out = (ca m.defs.now).run oi.names oi.next in
-    rw (is, h3, h2, h1, hl) (ap (λ (ns : Names). record m { code = (m.code ++ oi.code) ++ oa.code; scope = ns; next = oa.next }) (scope_back m.defs.now items_in m.scope m.next)
+    rw (is, h3, h2, h1, hl) (ap (λ (ns : KnownVars). record m { code = (m.code ++ oi.code) ++ oa.code; scope = ns; next = oa.next }) (scope_back m.defs.now items_in m.scope m.next)
     ∙ ap (λ (xs : List CStatement). record m { code = xs; next = oa.next }) (append_assoc m.code oi.code oa.code))
 do_state ca items_in k m m1 m2 m3 len (Ok g) (Err x) (Ok u) is hl h1 h2 h3 hg = absurd hg
 do_state ca items_in k m m1 m2 m3 len (Ok g) ra (Err x) is hl h1 h2 h3 hg = absurd hg
@@ -313,7 +315,7 @@ for_state ca cb ce x k m m1 m2 m3 m4 m5 m6 len (Ok g) (Ok a) (Ok b) (Ok n) (Ok b
     let loop : CStatement = st.Loop [] (c.Cmp W8 ck.Lt (c.Var y) (c.Var (plain (ob.next + 1)))) (oe.code ++ stepped y ∷ []) in
     let so_far : List CStatement = (m.code ++ oa.code) ++ ob.code in
     rw (is, h6, h5, hbody, h4, he, h3, hl, hb, h2, ha, h1)
-    (ap (λ (ns : Names). record m { code = ((so_far ++ first ∷ []) ++ last ∷ []) ++ loop ∷ []; scope = ns; next = oe.next }) (one_back known m.scope)
+    (ap (λ (ns : KnownVars). record m { code = ((so_far ++ first ∷ []) ++ last ∷ []) ++ loop ∷ []; scope = ns; next = oe.next }) (one_back known m.scope)
     ∙ ap (λ (xs : List CStatement). record m { code = xs; next = oe.next })
     (ap (λ (xs : List CStatement). xs ++ loop ∷ []) (append_assoc so_far (first ∷ []) (last ∷ [])) ∙ append_assoc so_far (first ∷ last ∷ []) (loop ∷ [])
     ∙ three m.code oa.code ob.code (first ∷ last ∷ loop ∷ [])))
@@ -324,13 +326,13 @@ for_state ca cb ce x k m m1 m2 m3 m4 m5 m6 len (Ok g) ra rb (Err z) re is h1 ha 
 for_state ca cb ce x k m m1 m2 m3 m4 m5 m6 len (Err z) ra rb rn re is h1 ha h2 hb hl h3 he h4 hbody h5 h6 = tt
 
 -- a call, behind its arguments
-abbrev arguments_then : (defs : List Def) (f : List ℕ) (es : List Comp) (names : Names) (n : ℕ) → Out
+abbrev arguments_then : (defs : List Def) (f : List ℕ) (es : List Comp) (names : KnownVars) (n : ℕ) → Out
 arguments_then defs f es names n =
     let os = all es names n in
     let o = calling defs f os.values os.next in
     record { code = os.code ++ o.code; value = o.value; ty = o.ty; next = o.next }
 
-call_runs_by : (b : Bool) (r : Ty) (f : List ℕ) (es : List Comp) (names : Names) (n : ℕ)
+call_runs_by : (b : Bool) (r : Ty) (f : List ℕ) (es : List Comp) (names : KnownVars) (n : ℕ)
     → (if b then does (ran r f es) else gives (called r f es)).run names n
     ≡ (let os : Outs = all es names n in
     let o : Out = (if b then record { code = st.Run f os.values ∷ []; value = nothing; ty = r; next = os.next }
@@ -339,7 +341,7 @@ call_runs_by : (b : Bool) (r : Ty) (f : List ℕ) (es : List Comp) (names : Name
 call_runs_by true r f es names n = refl
 call_runs_by false r f es names n = refl
 
-call_runs : (defs : List Def) (f : List ℕ) (es : List Comp) (names : Names) (n : ℕ) → (call defs f es).run names n ≡ arguments_then defs f es names n
+call_runs : (defs : List Def) (f : List ℕ) (es : List Comp) (names : KnownVars) (n : ℕ) → (call defs f es).run names n ≡ arguments_then defs f es names n
 call_runs defs f es names n = let r : Ty = result_of (fun_named defs f) in call_runs_by (is_unit r) r f es names n
 
 pub call_state : {E : Type 0} (cs : List Def → List Comp) (f : List ℕ) (k : Comp) (m m1 m2 : Emitter) (r : Result Given E) (rv : Result (List CExpr) E)
@@ -391,7 +393,7 @@ all_step ca m s t cs n x left rest vs vs1 v w hs hl ht hv hvs code values next =
     )
 
 -- one item of several
-pub items_step : (ci : List Def → Item → ItemComp) (m s t : Emitter) (cs : List CStatement) (ns : Names) (n : ℕ) (x : Item) (left rest : List Item) (w : ItemOut)
+pub items_step : (ci : List Def → Item → ItemComp) (m s t : Emitter) (cs : List CStatement) (ns : KnownVars) (n : ℕ) (x : Item) (left rest : List Item) (w : ItemOut)
     → s ≡ record m { code = cs; scope = ns; next = n } → left ≡ x ∷ rest
     → t ≡ after_items (ci s.defs.now x s.scope s.next) s
     → cs ++ (items (map (ci m.defs.now) left) ns n).code ≡ m.code ++ w.code

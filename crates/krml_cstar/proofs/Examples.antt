@@ -14,7 +14,7 @@ use Rattle.krml_ctree.specs.declared.tree.CType.TheVariants as ct
 use Rattle.krml_ctree.specs.declared.event.CEvent.{CEvent}
 use Rattle.krml_ctree.specs.declared.event.CEvent.TheVariants as c
 use Rattle.krml_cstar.specs.Image.{image_c}
-use Rattle.krml_cstar.specs.Translation.{plain, named}
+use Rattle.krml_cstar.specs.Variables.{plain, named}
 
 -- ---- names
 

@@ -22,7 +22,9 @@ use Rattle.krml_ctree.specs.declared.tree.CProgram.{CProgram}
 use Rattle.krml_ctree.specs.Parts.{Locals, is_known}
 use Rattle.krml_ctree.specs.Meaning as tgt
 use Rattle.krml_cstar.specs.Built.{is_ty_built}
-use Rattle.krml_cstar.specs.Translation.{Known, Names, Comp, ctype, look, is_unit, fun_code}
+use Rattle.krml_cstar.specs.Types.{ctype, is_unit}
+use Rattle.krml_cstar.specs.Variables.{Known, KnownVars, look}
+use Rattle.krml_cstar.specs.Translation.{Comp, fun_code}
 use Rattle.krml_cstar.proofs.Images.{image_at, images_at, state_image, Sim}
 use Rattle.krml_cstar.proofs.VariableNames.{number_of}
 use Rattle.krml_cstar.proofs.LocalsInC.{Keeps, Below}
@@ -41,7 +43,7 @@ pub record IsKnown (x : List ℕ) (a : Ty) (k : Known) : Type 0 where
   pub name : x ≡ k.name
   pub ty : k.ty ≡ a
 
-abbrev pub Named : Vars → Names → Type 0
+abbrev pub Named : Vars → KnownVars → Type 0
 Named [] [] = Unit {0}
 Named (v ∷ vars) (k ∷ names) = IsKnown v.0 v.1 k × Named vars names
 Named [] (k ∷ names) = ⊥
@@ -73,11 +75,11 @@ module _ (defs : List Def) where
 
   -- The variables in scope, name by name. They do not stand side by side: of a function's parameters the source has the last
   -- one first, and the names and the types in scope have the first one first.
-  abbrev pub Scoped : ℕ → Variables → Names → Locals → Type 0
+  abbrev pub Scoped : ℕ → Variables → KnownVars → Locals → Type 0
   Scoped n vars names now = (x : List ℕ) (k : Known) → look names x ≡ Some k → Carries n vars x k now
 
   -- Where the code of an expression begins, at the number n: in the source and in C.
-  pub record Stands (vars : Vars) (names : Names) (n : ℕ) (now : Locals) (env : Env) (s : SourceState) : Type 0 where
+  pub record Stands (vars : Vars) (names : KnownVars) (n : ℕ) (now : Locals) (env : Env) (s : SourceState) : Type 0 where
     pub ready : In vars s.memory env
     pub memory : MemoryTyped defs s.memory
     pub named : Named vars names
@@ -108,7 +110,7 @@ module _ (defs : List Def) where
       pub sound : Sound defs (In vars) a ev
       pub part : IsPart p a
       pub unit : co.unit ≡ is_unit a
-      pub grows : (names : Names) (n : ℕ) → n ≤ (co.run names n).next
-      pub typed : (names : Names) (n : ℕ) → Named vars names → (co.run names n).ty ≡ a
-      pub sim : (env : Env) (names : Names) (n : ℕ) (now : Locals) (s : SourceState) → (co.run names n).next ≤ 2 ^ 64 → Stands vars names n now env s
+      pub grows : (names : KnownVars) (n : ℕ) → n ≤ (co.run names n).next
+      pub typed : (names : KnownVars) (n : ℕ) → Named vars names → (co.run names n).ty ≡ a
+      pub sim : (env : Env) (names : KnownVars) (n : ℕ) (now : Locals) (s : SourceState) → (co.run names n).next ≤ 2 ^ 64 → Stands vars names n now env s
           → Sim defs (Good n now (co.run names n).value (co.run names n).next a) (ev env s) (tgt.exec p ccalls (co.run names n).code now (state_image defs s))

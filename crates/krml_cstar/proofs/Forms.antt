@@ -35,8 +35,11 @@ use Rattle.krml_ctree.specs.declared.tree.CProgram.{CProgram}
 use Rattle.krml_ctree.specs.Parts.{Local, Locals, CState, CRan, is_known, has_type, the_only, local_of, set}
 use Rattle.krml_ctree.specs.Meaning as tgt
 use Rattle.krml_ctree.proofs.Forms as forms
+use Rattle.krml_cstar.specs.Variables as variables
 use Rattle.krml_cstar.specs.Translation as code
-use Rattle.krml_cstar.specs.Translation.{Known, Names, Comp, is_unit, gives, does}
+use Rattle.krml_cstar.specs.Types.{is_unit}
+use Rattle.krml_cstar.specs.Variables.{Known, KnownVars}
+use Rattle.krml_cstar.specs.Translation.{Comp, gives, does}
 use Rattle.krml_cstar.proofs.Images.{level_image, image_at, the_image, state_image, Sim}
 use Rattle.krml_cstar.proofs.Part.{erased_built, type_at_built}
 use Rattle.krml_cstar.proofs.VariableNames.{number_of}
@@ -76,13 +79,13 @@ number_value w = ap is_unit_in (t.outs-Int (record { width = w; secret = false }
 -- ---- what later code keeps
 
 module _ (defs : List Def) where
-  pub scoped_on : (n m : ℕ) (vars : Variables) (names : Names) (a b : Locals) → n ≤ m → Keeps n a b → Scoped defs n vars names a → Scoped defs m vars names b
+  pub scoped_on : (n m : ℕ) (vars : Variables) (names : KnownVars) (a b : Locals) → n ≤ m → Keeps n a b → Scoped defs n vars names a → Scoped defs m vars names b
   scoped_on n m vars names a b le q h x k e =
       let c = h x k e in
       let lt = c.below in
       record { found = c.found; is = c.is; below = omega (arith, lt, le); value = keeps_value n a b k.emitted _ q c.below c.value }
 
-  pub stands_on : (vars : Vars) (names : Names) (n m : ℕ) (a b : Locals) (env : Env) (s now : SourceState) → Stands defs vars names n a env s → n ≤ m → Keeps n a b → Below m b
+  pub stands_on : (vars : Vars) (names : KnownVars) (n m : ℕ) (a b : Locals) (env : Env) (s now : SourceState) → Stands defs vars names n a env s → n ≤ m → Keeps n a b → Below m b
       → Extends s.memory now.memory → MemoryTyped defs now.memory → Stands defs vars names m b env now
   stands_on vars names n m a b env s now h le k be p hm = record {
     ready = ready_on defs (no_vars defs) (record { vars = vars; frame = None }) 0 [] s.memory now.memory env p h.ready;
@@ -173,7 +176,7 @@ module _ (defs : List Def) where
 
     -- ---- an expression and what follows
 
-    module _ (vars : Vars) (a : Ty) (ev : Sem) (co : Comp) (h : Fits defs p calls vars a ev co) (env : Env) (names : Names) (n : ℕ) (now : Locals) (s : SourceState)
+    module _ (vars : Vars) (a : Ty) (ev : Sem) (co : Comp) (h : Fits defs p calls vars a ev co) (env : Env) (names : KnownVars) (n : ℕ) (now : Locals) (s : SourceState)
         (small : (co.run names n).next ≤ 2 ^ 64) (here : Stands defs vars names n now env s) where
       -- what is known then
       pub record Then (x : Value) (late : Locals) (s1 : SourceState) : Type 0 where
@@ -241,24 +244,24 @@ module _ (defs : List Def) where
         at true q later = subst (λ z. IsPart p z × (is_unit z ≡ false)) (same_some b a q) h.0
         at false q later = later q
 
-    named_at : (vars : Vars) (names : Names) (x : List ℕ) (a : Ty) → Named vars names → look vars x ≡ Some a → (k : Known) × (code.look names x ≡ Some k) × (k.ty ≡ a)
+    named_at : (vars : Vars) (names : KnownVars) (x : List ℕ) (a : Ty) → Named vars names → look vars x ≡ Some a → (k : Known) × (variables.look names x ≡ Some k) × (k.ty ≡ a)
     named_at [] names x a h e = absurd (no_some a e)
     named_at ((y, b) ∷ vars) [] x a h e = absurd h
     named_at ((y, b) ∷ vars) (k ∷ names) x a h e =
-        at (bytes_eq k.name x) (code.look names x) (subst (λ z. (if bytes_eq z x then Some b else look vars x) ≡ Some a) h.0.name e) (named_at vars names x a h.1)
+        at (bytes_eq k.name x) (variables.look names x) (subst (λ z. (if bytes_eq z x then Some b else look vars x) ≡ Some a) h.0.name e) (named_at vars names x a h.1)
       where
         at : (same : Bool) (o : Option Known) → (if same then Some b else look vars x) ≡ Some a → (look vars x ≡ Some a → (k : Known) × (o ≡ Some k) × (k.ty ≡ a))
             → (z : Known) × ((if same then Some k else o) ≡ Some z) × (z.ty ≡ a)
         at true o q later = (k, refl, h.0.ty ∙ same_some b a q)
         at false o q later = later q
 
-    pub var_fits : (vars : Vars) (x : List ℕ) (a : Ty) → AreParts p vars → look vars x ≡ Some a → Fits defs p calls vars a (src.var x) (gives (λ names n. code.variable (code.look names x) names n))
+    pub var_fits : (vars : Vars) (x : List ℕ) (a : Ty) → AreParts p vars → look vars x ≡ Some a → Fits defs p calls vars a (src.var x) (gives (λ names n. code.variable (variables.look names x) names n))
     var_fits vars x a parts e = record {
       sound = subst (λ z. Sound defs (In defs vars) z (src.var x)) (type_at_built [] [] a (part_at vars x a parts e).0.built)
           (var_sound defs (no_vars defs) (record { vars = vars; frame = None }) 0 [] x a e);
       part = (part_at vars x a parts e).0;
       unit = sym (part_at vars x a parts e).1;
-      grows = λ names n. at (code.look names x) names n;
+      grows = λ names n. at (variables.look names x) names n;
       typed = λ names n nm. let k = named_at vars names x a nm e in rw k.1 k.2;
       sim = λ env names n now s small here.
           let k = named_at vars names x a here.named e in
@@ -271,6 +274,6 @@ module _ (defs : List Def) where
           }));
     }
       where
-        at : (o : Option Known) (names : Names) (n : ℕ) → n ≤ (code.variable o names n).next
+        at : (o : Option Known) (names : KnownVars) (n : ℕ) → n ≤ (code.variable o names n).next
         at None names n = omega arith
         at (Some k) names n = omega arith

@@ -28,7 +28,9 @@ use Rattle.krml_ctree.specs.declared.tree.CProgram.{CProgram}
 use Rattle.krml_ctree.specs.Parts.{Locals, has_type}
 use Rattle.krml_ctree.specs.Meaning as tgt
 use Rattle.krml_cstar.specs.Built.{is_ty_built, are_fields_built, is_expr_built, AreBuilt}
-use Rattle.krml_cstar.specs.Translation.{Known, Out, ctype, is_unit, code_of, params_from, cvars}
+use Rattle.krml_cstar.specs.Types.{ctype, is_unit}
+use Rattle.krml_cstar.specs.Variables.{Known}
+use Rattle.krml_cstar.specs.Translation.{Out, code_of, params_from, cvars}
 use Rattle.krml_cstar.specs.Count.{variables_of, HaveFewVariables}
 use Rattle.krml_cstar.proofs.Images.{image_at, images_at, the_image, state_image, Sim}
 use Rattle.krml_cstar.proofs.Lookups.{Lookups}

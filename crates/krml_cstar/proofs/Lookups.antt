@@ -7,7 +7,8 @@ use Rattle.krml_meaning.specs.Meaning as src
 use Rattle.krml_ctree.specs.declared.tree.CVar.{CVar}
 use Rattle.krml_ctree.specs.declared.tree.CProgram.{CProgram}
 use Rattle.krml_ctree.specs.Parts.{struct_named, function_named, table_named}
-use Rattle.krml_cstar.specs.Translation.{ctype, fun_code}
+use Rattle.krml_cstar.specs.Types.{ctype}
+use Rattle.krml_cstar.specs.Translation.{fun_code}
 use Rattle.krml_cstar.specs.Image.{place}
 
 abbrev pub fields_of : List Field → List CVar

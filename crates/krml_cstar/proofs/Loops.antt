@@ -42,8 +42,10 @@ use Rattle.krml_ctree.specs.Parts as parts
 use Rattle.krml_ctree.specs.Meaning as tgt
 use Rattle.krml_ctree.proofs.Forms as forms
 use Rattle.krml_cstar.specs.Built.{AreBuilt}
+use Rattle.krml_cstar.specs.Variables as variables
 use Rattle.krml_cstar.specs.Translation as code
-use Rattle.krml_cstar.specs.Translation.{Known, Names, Comp, does, nothing, plain, named}
+use Rattle.krml_cstar.specs.Variables.{Known, KnownVars, plain, named}
+use Rattle.krml_cstar.specs.Translation.{Comp, does, nothing}
 use Rattle.krml_cstar.proofs.Images.{the_image, state_image, Sim}
 use Rattle.krml_cstar.proofs.Typed.{has_number, image_num}
 use Rattle.krml_cstar.proofs.PartTypes.{unit_part, number_part, known_width}
@@ -70,7 +72,7 @@ module _ (defs : List Def) (p : CProgram) (calls : tgt.Calls) where
 
   -- ---- (while c a)
 
-  module _ (vars : Vars) (ev ev' : Sem) (co co' : Comp) (h : Fits defs p calls vars t.Bool ev co) (h' : Fits defs p calls vars t.Unit ev' co') (env : Env) (names : Names) (n : ℕ)
+  module _ (vars : Vars) (ev ev' : Sem) (co co' : Comp) (h : Fits defs p calls vars t.Bool ev co) (h' : Fits defs p calls vars t.Unit ev' co') (env : Env) (names : KnownVars) (n : ℕ)
       (now : Locals) (s : SourceState) (small : (co'.run names (co.run names n).next).next ≤ 2 ^ 64) (here : Stands defs vars names n now env s) where
     -- the scopes at the begin of a turn
     record Between (u : Unit {0}) (late : Locals) : Type 0 where
@@ -181,7 +183,7 @@ module _ (defs : List Def) (typed : AreWellTyped defs) (built : AreBuilt defs) (
   counter i = record { ty = ct.U32; name = named i x }
 
   abbrev bound : ℕ → CVar
-  bound i = code.var (i + 1) ct.U32
+  bound i = variables.var (i + 1) ct.U32
 
   -- a variable of C with a number
   abbrev holding : CVar → ℕ → Local
@@ -190,13 +192,13 @@ module _ (defs : List Def) (typed : AreWellTyped defs) (built : AreBuilt defs) (
   abbrev test : ℕ → CExpr
   test i = c.Cmp W8 ck.Lt (c.Var (named i x)) (c.Var (plain (i + 1)))
 
-  abbrev body_of : Names → ℕ → List CStatement
+  abbrev body_of : KnownVars → ℕ → List CStatement
   body_of names i = (co''.run (known i ∷ names) (i + 2)).code ++ code.stepped (named i x) ∷ []
 
   u32_part : IsPart p u32
   u32_part = number_part p W32
 
-  module _ (env : Env) (names : Names) (n i : ℕ) (now late : Locals) (s : SourceState) (end : ℕ) (end_fits : end < 2 ^ 32) (small : (co''.run (known i ∷ names) (i + 2)).next ≤ 2 ^ 64)
+  module _ (env : Env) (names : KnownVars) (n i : ℕ) (now late : Locals) (s : SourceState) (end : ℕ) (end_fits : end < 2 ^ 32) (small : (co''.run (known i ∷ names) (i + 2)).next ≤ 2 ^ 64)
       (le : n ≤ i) (kept : Keeps n now late) (here : Stands defs vars names i late env s) where
     abbrev last : ℕ
     last = (co''.run (known i ∷ names) (i + 2)).next

@@ -17,7 +17,7 @@ use Rattle.krml_ctree.specs.declared.tree.CExpr.TheVariants as c
 use Rattle.krml_ctree.specs.declared.tree.CProgram.{CProgram}
 use Rattle.krml_ctree.specs.Parts.{CBlock, Locals}
 use Rattle.krml_ctree.specs.Meaning.{value_of, number_of}
-use Rattle.krml_cstar.specs.Translation.{widen, work, spread}
+use Rattle.krml_cstar.specs.Numbers.{widen, work, spread}
 use Rattle.krml_cstar.proofs.Values.{work_is_wide, fits_work, number_fits, lit_value, bin_value_is, shift_value_is, widen_value, narrow_value}
 
 -- ---- the highest of suc k bits

@@ -38,8 +38,12 @@ use Rattle.krml_ctree.specs.Meaning as tgt
 use Rattle.krml_ctree.specs.Meaning.{blank_local}
 use Rattle.krml_ctree.proofs.Forms as forms
 use Rattle.krml_cstar.specs.Built.{is_public}
+use Rattle.krml_cstar.specs.Variables as variables
 use Rattle.krml_cstar.specs.Translation as code
-use Rattle.krml_cstar.specs.Translation.{Names, Out, Comp, widen, narrow, work, literal, truth, plain, gives, is_unit}
+use Rattle.krml_cstar.specs.Types.{is_unit}
+use Rattle.krml_cstar.specs.Variables.{KnownVars, plain}
+use Rattle.krml_cstar.specs.Numbers.{widen, narrow, work, literal, truth}
+use Rattle.krml_cstar.specs.Translation.{Out, Comp, gives}
 use Rattle.krml_cstar.proofs.Images.{image_at, the_image, state_image, Sim}
 use Rattle.krml_cstar.proofs.Part.{public_same}
 use Rattle.krml_cstar.proofs.Typed.{has_number, image_bool, image_num}
@@ -55,14 +59,14 @@ module _ (defs : List Def) (p : CProgram) (calls : tgt.Calls) where
   -- ---- two numbers
 
   -- What the code of an operator does with two numbers that expressions have.
-  abbrev pub Computes : Width → Width → Ty → (CExpr → CExpr → Names → ℕ → Out) → (ℕ → ℕ → SourceState → SourceRan Value) → Type 0
-  Computes w w' r f next = (x y : ℕ) (a b : CExpr) (names : Names) (n : ℕ) (now : Locals) (s : SourceState) → x < 2 ^ bits w → y < 2 ^ bits w' → Holds p n a now (cv.Num w x)
+  abbrev pub Computes : Width → Width → Ty → (CExpr → CExpr → KnownVars → ℕ → Out) → (ℕ → ℕ → SourceState → SourceRan Value) → Type 0
+  Computes w w' r f next = (x y : ℕ) (a b : CExpr) (names : KnownVars) (n : ℕ) (now : Locals) (s : SourceState) → x < 2 ^ bits w → y < 2 ^ bits w' → Holds p n a now (cv.Num w x)
       → Holds p n b now (cv.Num w' y) → Below n now → (f a b names n).next ≤ 2 ^ 64
       → Sim defs (Good defs p calls n now (f a b names n).value (f a b names n).next r) (next x y s) (exec defs p calls (f a b names n).code now (state_image defs s))
 
   module _ (vars : Vars) (w w' : Width) (ev ev' : Sem) (co co' : Comp) (h : Fits defs p calls vars (number_ty w) ev co) (h' : Fits defs p calls vars (number_ty w') ev' co') where
     -- Two numbers that were computed, and the expressions that have them.
-    pub record Computed (names : Names) (n : ℕ) (now : Locals) (env : Env) (x y : ℕ) (late : Locals) (s : SourceState) : Type 0 where
+    pub record Computed (names : KnownVars) (n : ℕ) (now : Locals) (env : Env) (x y : ℕ) (late : Locals) (s : SourceState) : Type 0 where
       pub left_fits : x < 2 ^ bits w
       pub right_fits : y < 2 ^ bits w'
       pub keeps : Keeps n now late
@@ -71,7 +75,7 @@ module _ (defs : List Def) (p : CProgram) (calls : tgt.Calls) where
       pub stands : Stands defs vars names (co'.run names (co.run names n).next).next late env s
 
     -- the operands, and then what follows
-    pub operands_then : {A : Type 0} (Q : A → Locals → Type 0) (rest : List CStatement) (env : Env) (names : Names) (n : ℕ) (now : Locals) (s : SourceState)
+    pub operands_then : {A : Type 0} (Q : A → Locals → Type 0) (rest : List CStatement) (env : Env) (names : KnownVars) (n : ℕ) (now : Locals) (s : SourceState)
         (next : ℕ → ℕ → SourceState → SourceRan A) → (co'.run names (co.run names n).next).next ≤ 2 ^ 64 → Stands defs vars names n now env s
         → ((x y : ℕ) (late : Locals) (s2 : SourceState) → Computed names n now env x y late s2 → Sim defs Q (next x y s2) (exec defs p calls rest late (state_image defs s2)))
         → Sim defs Q (src.operands w w' ev ev' env s next)
@@ -97,8 +101,8 @@ module _ (defs : List Def) (p : CProgram) (calls : tgt.Calls) where
         })))))
 
     -- an operator on two numbers
-    pub operands_fit : (r : Ty) (f : CExpr → CExpr → Names → ℕ → Out) (next : ℕ → ℕ → SourceState → SourceRan Value) → IsPart p r → is_unit r ≡ false
-        → ((a b : CExpr) (names : Names) (n : ℕ) → n ≤ (f a b names n).next) → ((a b : CExpr) (names : Names) (n : ℕ) → (f a b names n).ty ≡ r) → Computes w w' r f next
+    pub operands_fit : (r : Ty) (f : CExpr → CExpr → KnownVars → ℕ → Out) (next : ℕ → ℕ → SourceState → SourceRan Value) → IsPart p r → is_unit r ≡ false
+        → ((a b : CExpr) (names : KnownVars) (n : ℕ) → n ≤ (f a b names n).next) → ((a b : CExpr) (names : KnownVars) (n : ℕ) → (f a b names n).ty ≡ r) → Computes w w' r f next
         → Sound defs (In defs vars) r (λ env s. src.operands w w' ev ev' env s next)
         → Fits defs p calls vars r (λ env s. src.operands w w' ev ev' env s next) (gives (code.operands co co' f))
     operands_fit r f next part nu grows typed computes sound = record {
@@ -136,7 +140,7 @@ module _ (defs : List Def) (p : CProgram) (calls : tgt.Calls) where
   -- a new variable, and an expression of it
   module _ (n : ℕ) (small : n < 2 ^ 64) (now : Locals) (be : Below n now) (w : Width) (x : ℕ) where
     abbrev new_var : CVar
-    new_var = code.var n (width_type w)
+    new_var = variables.var n (width_type w)
 
     abbrev new_local : Local
     new_local = made defs p calls new_var (cv.Num w x)
@@ -263,7 +267,7 @@ module _ (defs : List Def) (p : CProgram) (calls : tgt.Calls) where
   binary_computes op.EqMask i = eq_mask_computes i
   binary_computes op.GteMask i = gte_mask_computes i
 
-  binary_grows : (o : BinOp) (i : IntTy) (a b : CExpr) (names : Names) (n : ℕ) → n ≤ (code.binary o i a b names n).next
+  binary_grows : (o : BinOp) (i : IntTy) (a b : CExpr) (names : KnownVars) (n : ℕ) → n ≤ (code.binary o i a b names n).next
   binary_grows op.Add i a b names n = omega arith
   binary_grows op.Sub i a b names n = omega arith
   binary_grows op.Mul i a b names n = omega arith
@@ -275,7 +279,7 @@ module _ (defs : List Def) (p : CProgram) (calls : tgt.Calls) where
   binary_grows op.EqMask i a b names n = omega arith
   binary_grows op.GteMask i a b names n = omega arith
 
-  binary_ty : (o : BinOp) (i : IntTy) (a b : CExpr) (names : Names) (n : ℕ) → (code.binary o i a b names n).ty ≡ t.Int i
+  binary_ty : (o : BinOp) (i : IntTy) (a b : CExpr) (names : KnownVars) (n : ℕ) → (code.binary o i a b names n).ty ≡ t.Int i
   binary_ty op.Add i a b names n = refl
   binary_ty op.Sub i a b names n = refl
   binary_ty op.Mul i a b names n = refl

@@ -20,7 +20,9 @@ use Rattle.krml_ctree.specs.declared.value.CValue.{CValue}
 use Rattle.krml_ctree.specs.Parts.{Local, Locals}
 use Rattle.krml_ctree.specs.Meaning as tgt
 use Rattle.krml_cstar.specs.Built.{is_ty_built, are_fields_built}
-use Rattle.krml_cstar.specs.Translation.{Known, look, named, ctype, params_from, cvars}
+use Rattle.krml_cstar.specs.Types.{ctype}
+use Rattle.krml_cstar.specs.Variables.{Known, look, named}
+use Rattle.krml_cstar.specs.Translation.{params_from, cvars}
 use Rattle.krml_cstar.proofs.Images.{image_at, images_at}
 use Rattle.krml_cstar.proofs.Part.{erased_built}
 use Rattle.krml_cstar.proofs.VariableNames.{number_of, number-named}

@@ -48,7 +48,8 @@ use Rattle.krml_ctree.specs.Parts.{CRan}
 use Rattle.krml_ctree.specs.Meaning as tgt
 use Rattle.krml_cstar.specs.Built.{AreBuilt}
 use Rattle.krml_cstar.specs.Image.{image_c}
-use Rattle.krml_cstar.specs.Translation.{ctype, is_unit, fun_code, funs_of, program_of}
+use Rattle.krml_cstar.specs.Types.{ctype, is_unit}
+use Rattle.krml_cstar.specs.Translation.{fun_code, funs_of, program_of}
 use Rattle.krml_cstar.specs.Count.{HaveFewVariables}
 use Rattle.krml_cstar.specs.Theorem.{DoesTheSame}
 use Rattle.krml_cstar.proofs.Images.{image_at, images_at, state_image, Sim}

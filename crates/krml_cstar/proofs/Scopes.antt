@@ -10,7 +10,7 @@ use Rattle.krml_ast.proofs.Firsts.{got}
 use Rattle.krml_intern.specs.Scope as places
 use Rattle.krml_intern.proofs.Lasts.{at_last, still}
 use Rattle.krml_cstar.specs.declared.locals.Local.{Local}
-use Rattle.krml_cstar.specs.Translation.{Names, Known, look}
+use Rattle.krml_cstar.specs.Variables.{KnownVars, Known, look}
 use Rattle.krml_cstar.specs.Scopes.{known, cut, placed}
 
 -- what is kept of the images of a list, the last first
@@ -18,31 +18,31 @@ pub kept_images : {A B : Type 0} (f : A → B) (n : ℕ) (xs : List A) → rever
 kept_images f n xs = ap reverse (sym (take-map f n xs)) ∙ kept n (map f xs)
 
 -- newer variables are cut off
-pub cut_off : (more names : Names) → cut (length names) (more ++ names) ≡ names
+pub cut_off : (more names : KnownVars) → cut (length names) (more ++ names) ≡ names
 cut_off more names =
     let k_is : length more ≡ length (more ++ names) - length names = let sum = length-append more names in omega (arith, sum) in
     drop_at more names (length (more ++ names) - length names) k_is
 
 -- ---- places
 
-length-placed : (names : Names) → length (placed names) ≡ length names
+length-placed : (names : KnownVars) → length (placed names) ≡ length names
 length-placed [] = refl
 length-placed (k ∷ names) = ap suc (length-placed names)
 
-drop-placed : (n : ℕ) (names : Names) → drop n (placed names) ≡ placed (drop n names)
+drop-placed : (n : ℕ) (names : KnownVars) → drop n (placed names) ≡ placed (drop n names)
 drop-placed zero names = refl
 drop-placed (suc n) [] = refl
 drop-placed (suc n) (k ∷ names) = drop-placed n names
 
 -- what is left of the places is that of the variables left
-cut_places : (n : ℕ) (names : Names) → places.cut n (placed names) ≡ placed (cut n names)
+cut_places : (n : ℕ) (names : KnownVars) → places.cut n (placed names) ≡ placed (cut n names)
 cut_places n names = ap (λ m. drop (m - n) (placed names)) (length-placed names) ∙ drop-placed (length names - n) names
 
 pub places_kept : (items : List Local) (n : ℕ) → places.cut n (placed (reverse (map known items))) ≡ placed (reverse (map known (take n items)))
 places_kept items n = cut_places n (reverse (map known items)) ∙ ap placed (sym (kept_images known n items))
 
 -- a name with no place is that of no variable
-pub no_place : (names : Names) (x : List ℕ) → places.look (placed names) x ≡ None → look names x ≡ None
+pub no_place : (names : KnownVars) (x : List ℕ) → places.look (placed names) x ≡ None → look names x ≡ None
 no_place [] x e = refl
 no_place (k ∷ names) x e = go (bytes_eq k.name x) (no_place names x) e
   where
@@ -52,10 +52,10 @@ no_place (k ∷ names) x e = go (bytes_eq k.name x) (no_place names x) e
     go false older e = older e
 
 -- the newest of a name stands at its place
-data Stands (names : Names) (x : List ℕ) (n : ℕ) : Type 0 where
+data Stands (names : KnownVars) (x : List ℕ) (n : ℕ) : Type 0 where
   stands : (k : Known) → slice_get (reverse names) n ≡ Some k → look names x ≡ Some k → Stands names x n
 
-found : (names : Names) (x : List ℕ) (n : ℕ) → places.look (placed names) x ≡ Some n → Stands names x n
+found : (names : KnownVars) (x : List ℕ) (n : ℕ) → places.look (placed names) x ≡ Some n → Stands names x n
 found [] x n e = absurd (cc)
 found (k ∷ names) x n e = go (found names x n) (bytes_eq k.name x) refl e
   where
@@ -72,10 +72,10 @@ found (k ∷ names) x n e = go (found names x n) (bytes_eq k.name x) refl e
         stands k (ap (λ ls. slice_get ls n) back ∙ ap (slice_get (reverse names ++ k ∷ [])) here ∙ at_last (reverse names) k) (ap (λ b. if b then Some k else look names x) is)
     go older false is e = on is (older e)
 
-placed_at : (names : Names) (x : List ℕ) (n : ℕ) → Stands names x n → look names x ≡ slice_get (reverse names) n
+placed_at : (names : KnownVars) (x : List ℕ) (n : ℕ) → Stands names x n → look names x ≡ slice_get (reverse names) n
 placed_at names x n (stands k at is) = is ∙ sym at
 
-pub look_at : (names : Names) (x : List ℕ) (n : ℕ) → places.look (placed names) x ≡ Some n → look names x ≡ slice_get (reverse names) n
+pub look_at : (names : KnownVars) (x : List ℕ) (n : ℕ) → places.look (placed names) x ≡ Some n → look names x ≡ slice_get (reverse names) n
 look_at names x n e = placed_at names x n (found names x n e)
 
 -- what `get` gives of variables

@@ -25,7 +25,8 @@ use Rattle.krml_ctree.specs.declared.tree.CProgram.{CProgram}
 use Rattle.krml_ctree.specs.Meaning as tgt
 use Rattle.krml_cstar.specs.Built.{is_public, is_empty, all, is_ty_built, are_fields_built, is_expr_built, is_item_built, AreBuilt}
 use Rattle.krml_cstar.specs.Translation as code
-use Rattle.krml_cstar.specs.Translation.{Comp, ItemComp, is_unit, code_of}
+use Rattle.krml_cstar.specs.Types.{is_unit}
+use Rattle.krml_cstar.specs.Translation.{Comp, ItemComp, code_of}
 use Rattle.krml_cstar.proofs.Lookups.{Lookups}
 use Rattle.krml_cstar.proofs.Part.{nothing_listed, erased_built, at_built, StructBuilt, FunctionBuilt, struct_built, function_built, types_here}
 use Rattle.krml_cstar.proofs.Typed.{each_value}

@@ -40,7 +40,9 @@ use Rattle.krml_ctree.specs.Meaning as tgt
 use Rattle.krml_ctree.proofs.Forms as forms
 use Rattle.krml_cstar.specs.Built.{is_ty_built, are_fields_built, AreBuilt}
 use Rattle.krml_cstar.specs.Translation as code
-use Rattle.krml_cstar.specs.Translation.{Names, Comp, is_unit, gives}
+use Rattle.krml_cstar.specs.Types.{is_unit}
+use Rattle.krml_cstar.specs.Variables.{KnownVars}
+use Rattle.krml_cstar.specs.Translation.{Comp, gives}
 use Rattle.krml_cstar.proofs.Images.{level_image, image_at, images_at, the_image, state_image, Sim}
 use Rattle.krml_cstar.proofs.Lookups.{Lookups, fields_of}
 use Rattle.krml_cstar.proofs.Part.{struct_built, erased_built, at_built, types_here}
@@ -77,8 +79,8 @@ module _ (defs : List Def) (p : CProgram) (calls : tgt.Calls) where
 
   pub record FitsAll (vars : Vars) (types : List Ty) (evs : List Sem) (cos : List Comp) : Type 0 where
     pub sound : SoundAll defs (In defs vars) types evs
-    pub grows : (names : Names) (n : ℕ) → n ≤ (code.all cos names n).next
-    pub sim : (env : Env) (names : Names) (n : ℕ) (now : Locals) (s : SourceState) → (code.all cos names n).next ≤ 2 ^ 64 → Stands defs vars names n now env s
+    pub grows : (names : KnownVars) (n : ℕ) → n ≤ (code.all cos names n).next
+    pub sim : (env : Env) (names : KnownVars) (n : ℕ) (now : Locals) (s : SourceState) → (code.all cos names n).next ≤ 2 ^ 64 → Stands defs vars names n now env s
         → Sim defs (GoodAll n now (code.all cos names n).values (code.all cos names n).next types) (src.values evs env s) (exec defs p calls (code.all cos names n).code now (state_image defs s))
 
   pub none_fit : (vars : Vars) → FitsAll vars [] [] []
@@ -110,12 +112,12 @@ module _ (defs : List Def) (p : CProgram) (calls : tgt.Calls) where
   }
 
   -- operands, and then what follows
-  pub record ThenAll (vars : Vars) (types : List Ty) (cos : List Comp) (env : Env) (names : Names) (n : ℕ) (now : Locals) (s : SourceState) (xs : List Value) (late : Locals) (s1 : SourceState) : Type 0 where
+  pub record ThenAll (vars : Vars) (types : List Ty) (cos : List Comp) (env : Env) (names : KnownVars) (n : ℕ) (now : Locals) (s : SourceState) (xs : List Value) (late : Locals) (s1 : SourceState) : Type 0 where
     pub fine : FineAll defs s.memory types xs s1
     pub good : GoodAll n now (code.all cos names n).values (code.all cos names n).next types xs late
     pub stands : Stands defs vars names (code.all cos names n).next late env s1
 
-  pub all_then : {A : Type 0} (vars : Vars) (types : List Ty) (evs : List Sem) (cos : List Comp) → FitsAll vars types evs cos → (env : Env) (names : Names) (n : ℕ) (now : Locals) (s : SourceState)
+  pub all_then : {A : Type 0} (vars : Vars) (types : List Ty) (evs : List Sem) (cos : List Comp) → FitsAll vars types evs cos → (env : Env) (names : KnownVars) (n : ℕ) (now : Locals) (s : SourceState)
       → (code.all cos names n).next ≤ 2 ^ 64 → Stands defs vars names n now env s → (Q : A → Locals → Type 0) (b : List CStatement) (go : List Value → SourceState → SourceRan A)
       → ((xs : List Value) (late : Locals) (s1 : SourceState) → ThenAll vars types cos env names n now s xs late s1 → Sim defs Q (go xs s1) (exec defs p calls b late (state_image defs s1)))
       → Sim defs Q (bind (src.values evs env s) go) (exec defs p calls ((code.all cos names n).code ++ b) now (state_image defs s))

@@ -27,7 +27,8 @@ use Rattle.krml_ctree.specs.Text.{width_type}
 use Rattle.krml_ctree.specs.Parts.{has_type}
 use Rattle.krml_ctree.specs.Meaning.{fit}
 use Rattle.krml_cstar.specs.Built.{level_ty_built, is_ty_built, are_fields_built, AreBuilt}
-use Rattle.krml_cstar.specs.Translation.{ctype, is_unit, params_from, cvars}
+use Rattle.krml_cstar.specs.Types.{ctype, is_unit}
+use Rattle.krml_cstar.specs.Translation.{params_from, cvars}
 use Rattle.krml_cstar.proofs.Images.{level_image, field_images, image_at, images_at}
 use Rattle.krml_cstar.proofs.Lookups.{fields_of}
 use Rattle.krml_cstar.proofs.Part.{erased_built, no_sum}

@@ -10,7 +10,7 @@ use Rattle.krml_ctree.specs.declared.tree.CType.{CType}
 use Rattle.krml_ctree.specs.declared.tree.CType.TheVariants as ct
 use Rattle.krml_ctree.specs.Text.{width_type}
 use Rattle.krml_syntax.proofs.Types.{erased_bool, erased_unit, erased_int, erased_buf, erased_var, erased_named}
-use Rattle.krml_cstar.specs.Translation.{ctype_in, ctype, is_unit}
+use Rattle.krml_cstar.specs.Types.{ctype_in, ctype, is_unit}
 
 -- ---- in C
 

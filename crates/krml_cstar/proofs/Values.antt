@@ -22,7 +22,7 @@ use Rattle.krml_ctree.specs.declared.tree.CProgram.{CProgram}
 use Rattle.krml_ctree.specs.Parts.{CBlock, Locals, as_number, as_pointer}
 use Rattle.krml_ctree.specs.Meaning.{CSem, value_of, both, numbers, bin_value, is_wide, number_of, compared, divided, where_true}
 use Rattle.krml_ctree.proofs.Forms.{lit_is, cast_is, bin_is, cmp_is}
-use Rattle.krml_cstar.specs.Translation.{widen, narrow, work, literal, truth, shift_op, kind}
+use Rattle.krml_cstar.specs.Numbers.{widen, narrow, work, literal, truth, shift_op, kind}
 
 -- ---- values that are numbers
 

@@ -8,7 +8,7 @@ use Rattle.std.specs.Char.{is_digit}
 use Rattle.std.specs.Fmt.{decimal}
 use Rattle.std.specs.Str.{bytes_eq}
 use Rattle.std.specs.Str.Parse.{AllDigits, digits_value}
-use Rattle.krml_cstar.specs.Translation.{plain, named}
+use Rattle.krml_cstar.specs.Variables.{plain, named}
 
 -- the digits at the front of a text
 abbrev pub leading : List ℕ → List ℕ

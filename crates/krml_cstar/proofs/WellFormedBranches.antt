@@ -18,7 +18,9 @@ use Rattle.krml_ctree.specs.declared.tree.CProgram.{CProgram}
 use Rattle.krml_ctree.specs.Shape.{ExprKeeps}
 use Rattle.krml_ctree.specs.WellFormed.{Scope, of_var, IsArithmetic, IsPlainOperator, HasType}
 use Rattle.krml_syntax.proofs.Types.{erased_unit, erased_int}
-use Rattle.krml_cstar.specs.Translation.{ctype, is_unit, plain, named, var, Known, Names, Out, Comp, nothing, does, arm, into, stepped, if_unit, if_value, choice, ItemComp, bound, done, items, block, while, for}
+use Rattle.krml_cstar.specs.Types.{ctype, is_unit}
+use Rattle.krml_cstar.specs.Variables.{plain, named, var, Known, KnownVars}
+use Rattle.krml_cstar.specs.Translation.{Out, Comp, nothing, does, arm, into, stepped, if_unit, if_value, choice, ItemComp, bound, done, items, block, while, for}
 use Rattle.krml_cstar.proofs.VariableNames.{number-named, number-plain}
 use Rattle.krml_cstar.proofs.WellFormedNames.{plain_is, named_is}
 use Rattle.krml_cstar.proofs.WellFormedCode.{Within, newest, before, typed_on, TypeFits, Laid, laid_none, laid_then, laid_decl, laid_blank, laid_set, laid_chain, laid_loop}
@@ -35,7 +37,7 @@ module _ (p : CProgram) where
       → Placed p a n g (record { code = code; value = nothing; ty = b; next = m })
   nothing_placed a b n m g h code none ty fits laid = record { after = h; laid = laid; keeps = nothing_keeps; ty = ty; fits = fits; typed = λ nu. absurd (cc) }
 
-  if_unit_placed : (vars : Vars) (a : Ty) (ct ca cb : Comp) → is_unit a ≡ true → Places p vars t.Bool ct → Places p vars a ca → Places p vars a cb → (names : Names) (n : ℕ) (g : Scope)
+  if_unit_placed : (vars : Vars) (a : Ty) (ct ca cb : Comp) → is_unit a ≡ true → Places p vars t.Bool ct → Places p vars a ca → Places p vars a cb → (names : KnownVars) (n : ℕ) (g : Scope)
       → (if_unit ct ca cb names n).next ≤ 2 ^ 64 → Scoped p g names vars → Placed p a n g (if_unit ct ca cb names n)
   if_unit_placed vars a ct ca cb none ht ha hb names n g small s =
       let ot = ct.run names n in
@@ -59,7 +61,7 @@ module _ (p : CProgram) where
       laid_then p n o.next o.next g po.after po.after o.code (st.Set (plain r) o.value ∷ []) po.laid
       (laid_set p o.next po.after (var r ty) o.value (plain_is r small) (po.laid.more (of_var (var r ty)) there) po.keeps (subst (HasType p po.after o.value) e (po.typed value)))
 
-  if_value_placed : (vars : Vars) (a : Ty) (ct ca cb : Comp) → is_unit a ≡ false → Places p vars t.Bool ct → Places p vars a ca → Places p vars a cb → (names : Names) (n : ℕ) (g : Scope)
+  if_value_placed : (vars : Vars) (a : Ty) (ct ca cb : Comp) → is_unit a ≡ false → Places p vars t.Bool ct → Places p vars a ca → Places p vars a cb → (names : KnownVars) (n : ℕ) (g : Scope)
       → (if_value ct ca cb names n).next ≤ 2 ^ 64 → Scoped p g names vars → Placed p a n g (if_value ct ca cb names n)
   if_value_placed vars a ct ca cb value ht ha hb names n g small s =
       let ot = ct.run names n in
@@ -103,7 +105,7 @@ module _ (p : CProgram) where
     placed = λ names n g small s. at names n g ca.unit (ha.unit (scoped_values p g names vars s)) small s;
   }
     where
-      grown : (names : Names) (n : ℕ) (b : Bool) → n ≤ (if b then if_unit ct ca cb names n else if_value ct ca cb names n).next
+      grown : (names : KnownVars) (n : ℕ) (b : Bool) → n ≤ (if b then if_unit ct ca cb names n else if_value ct ca cb names n).next
       grown names n true =
           let ot = ct.run names n in
           let gt = ht.grows names n in
@@ -115,7 +117,7 @@ module _ (p : CProgram) where
           let ga = ha.grows names (ot.next + 1) in
           let gb = hb.grows names (ca.run names (ot.next + 1)).next in omega (arith, gt, ga, gb)
 
-      at : (names : Names) (n : ℕ) (g : Scope) (b : Bool) → b ≡ is_unit a → (if b then if_unit ct ca cb names n else if_value ct ca cb names n).next ≤ 2 ^ 64 → Scoped p g names vars
+      at : (names : KnownVars) (n : ℕ) (g : Scope) (b : Bool) → b ≡ is_unit a → (if b then if_unit ct ca cb names n else if_value ct ca cb names n).next ≤ 2 ^ 64 → Scoped p g names vars
           → Placed p a n g (if b then if_unit ct ca cb names n else if_value ct ca cb names n)
       at names n g true e small s = if_unit_placed vars a ct ca cb (sym e) ht ha hb names n g small s
       at names n g false e small s = if_value_placed vars a ct ca cb (sym e) ht ha hb names n g small s
@@ -169,7 +171,7 @@ module _ (p : CProgram) where
       same_type : ctype a ≡ ctype (erased a)
       same_type = ctype_same a (erased a) refl
 
-      known : Names → ℕ → Known
+      known : KnownVars → ℕ → Known
       known names n = record { name = x; emitted = named (e.run names n).next x; ty = a }
 
   pub ran_place : (vars more : Vars) (e : Comp) (is : List ItemComp) → Places p vars t.Unit e → ItemsPlace p vars more (items is) → ItemsPlace p vars more (items (done e ∷ is))

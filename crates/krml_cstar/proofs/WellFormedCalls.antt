@@ -23,7 +23,9 @@ use Rattle.krml_ctree.specs.Shape.{IsTable, IsField, IsFunction, IsPlain, TypeKe
 use Rattle.krml_ctree.specs.WellFormed.{Scope, of_var, IsKnown, HasType, HaveTypes}
 use Rattle.krml_meaning.proofs.Lists.{same_some, no_some}
 use Rattle.krml_syntax.proofs.Types.{erased_int, erased_named}
-use Rattle.krml_cstar.specs.Translation.{ctype, is_unit, plain, var, Comp, gives, does, value, operand, built, got, field_type, type_or_unit, looked_up, table_type, result_of, ran, called, call, params_from, cvars}
+use Rattle.krml_cstar.specs.Types.{ctype, is_unit}
+use Rattle.krml_cstar.specs.Variables.{plain, var}
+use Rattle.krml_cstar.specs.Translation.{Comp, gives, does, value, operand, built, got, field_type, type_or_unit, looked_up, table_type, result_of, ran, called, call, params_from, cvars}
 use Rattle.krml_cstar.specs.Translation as tr
 use Rattle.krml_cstar.proofs.Lookups.{fields_of}
 use Rattle.krml_cstar.proofs.WellFormedNames.{plain_is}

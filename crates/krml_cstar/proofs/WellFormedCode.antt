@@ -19,7 +19,8 @@ use Rattle.krml_ctree.specs.Text.{width_type}
 use Rattle.krml_ctree.specs.Shape.{IsVariable, IsTable, IsFunction, TypeKeeps, ExprKeeps, ExprsKeep, StatementKeeps, StatementsKeep, ArmKeeps, ArmsKeep}
 use Rattle.krml_ctree.specs.WellFormed as wf
 use Rattle.krml_ctree.specs.WellFormed.{Declared, Scope, of_var, IsKnown, IsArithmetic, HasType, HaveTypes, IsCondition, StatementFits, StatementsFit, BlockFits, ArmsFit}
-use Rattle.krml_cstar.specs.Translation.{plain, var, arm}
+use Rattle.krml_cstar.specs.Variables.{plain, var}
+use Rattle.krml_cstar.specs.Translation.{arm}
 use Rattle.krml_cstar.proofs.VariableNames.{number_of, number-plain}
 use Rattle.krml_cstar.proofs.WellFormedNames.{Fresh, plain_is, fresh_none, fresh_one, fresh_both}
 

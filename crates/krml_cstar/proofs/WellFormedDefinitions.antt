@@ -31,7 +31,8 @@ use Rattle.krml_meaning.proofs.Lists.{same_some, no_some, each_so, each_append, 
 use Rattle.krml_syntax.proofs.Types.{at_none}
 use Rattle.krml_meaning.proofs.Files.{facts}
 use Rattle.krml_cstar.specs.Built.{is_ty_built, is_empty, are_fields_built, is_expr_built, is_built}
-use Rattle.krml_cstar.specs.Translation.{ctype, fun_code, structs_of, tables_of, funs_of}
+use Rattle.krml_cstar.specs.Types.{ctype}
+use Rattle.krml_cstar.specs.Translation.{fun_code, structs_of, tables_of, funs_of}
 use Rattle.krml_cstar.proofs.Part.{nothing_listed}
 use Rattle.krml_cstar.proofs.Lookups.{fields_of}
 use Rattle.krml_cstar.proofs.WellFormedNames.{decimal_is}

@@ -25,7 +25,10 @@ use Rattle.krml_ctree.specs.Text.{width_type}
 use Rattle.krml_ctree.specs.Shape.{ExprKeeps}
 use Rattle.krml_ctree.specs.WellFormed.{Scope, of_var, IsPlainOperator, HasType}
 use Rattle.krml_syntax.proofs.Types.{erased_bool, erased_unit, erased_int}
-use Rattle.krml_cstar.specs.Translation.{ctype, is_unit, plain, var, Known, Names, Out, Comp, nothing, gives, does, value, widen, narrow, work, literal, truth, operands, operand, arithmetic, divided, eq_mask, gte_mask, binary, shift_op, shifted, kind, compared, opposite, converted, variable, look}
+use Rattle.krml_cstar.specs.Types.{ctype, is_unit}
+use Rattle.krml_cstar.specs.Variables.{plain, var, Known, KnownVars, look}
+use Rattle.krml_cstar.specs.Numbers.{widen, narrow, work, literal, truth, shift_op, kind}
+use Rattle.krml_cstar.specs.Translation.{Out, Comp, nothing, gives, does, value, operands, operand, arithmetic, divided, eq_mask, gte_mask, binary, shifted, compared, opposite, converted, variable}
 use Rattle.krml_cstar.proofs.VariableNames.{number-plain}
 use Rattle.krml_cstar.proofs.WellFormedNames.{plain_is}
 use Rattle.krml_cstar.proofs.WellFormedCode.{newest, before, typed_on, TypeFits, Laid, laid_then, laid_decl, laid_div}
@@ -101,24 +104,24 @@ module _ (p : CProgram) where
         rw f.is (value_placed p a f.k.ty (c.Var f.k.emitted) names n g f.entry.ty f.entry.fits (ExprKeeps.var f.entry.shape) (λ nu. HasType.var _ f.entry.there));
   }
     where
-      at : (names : Names) (n : ℕ) (o : Option Known) → n ≤ (variable o names n).next
+      at : (names : KnownVars) (n : ℕ) (o : Option Known) → n ≤ (variable o names n).next
       at names n (Some k) = omega arith
       at names n None = omega arith
 
   -- ---- operands
 
   -- what is made of a value
-  pub record Unary (a r : Ty) (f : Out → Names → ℕ → Out) : Type 0 where
-    pub grows : (o : Out) (names : Names) (n : ℕ) → n ≤ (f o names n).next
-    pub placed : (o : Out) (names : Names) (n : ℕ) (g : Scope) → (f o names n).next ≤ 2 ^ 64 → erased o.ty ≡ a → ExprKeeps o.value → HasType p g o.value (ctype a) → Placed p r n g (f o names n)
+  pub record Unary (a r : Ty) (f : Out → KnownVars → ℕ → Out) : Type 0 where
+    pub grows : (o : Out) (names : KnownVars) (n : ℕ) → n ≤ (f o names n).next
+    pub placed : (o : Out) (names : KnownVars) (n : ℕ) (g : Scope) → (f o names n).next ≤ 2 ^ 64 → erased o.ty ≡ a → ExprKeeps o.value → HasType p g o.value (ctype a) → Placed p r n g (f o names n)
 
   -- and of two
-  pub record Binary (a b r : Ty) (f : CExpr → CExpr → Names → ℕ → Out) : Type 0 where
-    pub grows : (x y : CExpr) (names : Names) (n : ℕ) → n ≤ (f x y names n).next
-    pub placed : (x y : CExpr) (names : Names) (n : ℕ) (g : Scope) → (f x y names n).next ≤ 2 ^ 64 → ExprKeeps x → ExprKeeps y → HasType p g x (ctype a) → HasType p g y (ctype b)
+  pub record Binary (a b r : Ty) (f : CExpr → CExpr → KnownVars → ℕ → Out) : Type 0 where
+    pub grows : (x y : CExpr) (names : KnownVars) (n : ℕ) → n ≤ (f x y names n).next
+    pub placed : (x y : CExpr) (names : KnownVars) (n : ℕ) (g : Scope) → (f x y names n).next ≤ 2 ^ 64 → ExprKeeps x → ExprKeeps y → HasType p g x (ctype a) → HasType p g y (ctype b)
         → Placed p r n g (f x y names n)
 
-  pub operand_placed : (vars : Vars) (a r : Ty) (ca : Comp) (f : Out → Names → ℕ → Out) → is_unit a ≡ false → is_unit r ≡ false → Places p vars a ca → Unary a r f
+  pub operand_placed : (vars : Vars) (a r : Ty) (ca : Comp) (f : Out → KnownVars → ℕ → Out) → is_unit a ≡ false → is_unit r ≡ false → Places p vars a ca → Unary a r f
       → Places p vars r (gives (operand ca f))
   operand_placed vars a r ca f va vr ha hf = record {
     unit = λ vs. sym vr;
@@ -133,7 +136,7 @@ module _ (p : CProgram) where
         behind p r n oa.next g pa.after oa.code (f oa names oa.next) pa.laid (hf.placed oa names oa.next pa.after small pa.ty pa.keeps (pa.typed va));
   }
 
-  pub operands_placed : (vars : Vars) (a b r : Ty) (ca cb : Comp) (f : CExpr → CExpr → Names → ℕ → Out) → is_unit a ≡ false → is_unit b ≡ false → is_unit r ≡ false
+  pub operands_placed : (vars : Vars) (a b r : Ty) (ca cb : Comp) (f : CExpr → CExpr → KnownVars → ℕ → Out) → is_unit a ≡ false → is_unit b ≡ false → is_unit r ≡ false
       → Places p vars a ca → Places p vars b cb → Binary a b r f → Places p vars r (gives (operands ca cb f))
   operands_placed vars a b r ca cb f va vb vr ha hb hf = record {
     unit = λ vs. sym vr;
@@ -324,7 +327,7 @@ module _ (p : CProgram) where
     placed = λ o names n g small ty k h. at o names n g (same_width i.width j.width) refl k (as_int g i o.value h);
   }
     where
-      at : (o : Out) (names : Names) (n : ℕ) (g : Scope) (b : Bool) → same_width i.width j.width ≡ b → ExprKeeps o.value → HasType p g o.value (width_type i.width)
+      at : (o : Out) (names : KnownVars) (n : ℕ) (g : Scope) (b : Bool) → same_width i.width j.width ≡ b → ExprKeeps o.value → HasType p g o.value (width_type i.width)
           → Placed p (int_ty j) n g (value (t.Int j) (if b then o.value else c.Cast j.width o.value) names n)
       at o names n g true e k h = value_placed p (int_ty j) (t.Int j) o.value names n g (erased_int j) (int_fits j) k (λ nu. of_int g j o.value (subst (HasType p g o.value) (same_width_type i.width j.width e) h))
       at o names n g false e k h = value_placed p (int_ty j) (t.Int j) (c.Cast j.width o.value) names n g (erased_int j) (int_fits j) (ExprKeeps.cast k) (λ nu. of_int g j _ (HasType.cast j.width i.width h))

@@ -11,7 +11,7 @@ use Rattle.krml_trace.specs.Byte.{is_digit}
 use Rattle.krml_ast.specs.FileTypes as file
 use Rattle.krml_ctree.specs.Shape.{is_decimal, IsVariable}
 use Rattle.krml_meaning.proofs.Lists.{each_append}
-use Rattle.krml_cstar.specs.Translation.{plain, named}
+use Rattle.krml_cstar.specs.Variables.{plain, named}
 use Rattle.krml_cstar.proofs.VariableNames.{number_of, name_other}
 
 -- ---- names of variables

@@ -11,7 +11,8 @@ use Rattle.krml_ctree.specs.declared.tree.CProgram.{CProgram}
 use Rattle.krml_ctree.specs.Text.{width_type}
 use Rattle.krml_ctree.specs.Shape.{IsPlain, TypeKeeps, IsLiteral, ExprKeeps}
 use Rattle.krml_ctree.specs.WellFormed.{Scope, IsKnown, IsArithmetic, IsPlainOperator, IsShift, HasType}
-use Rattle.krml_cstar.specs.Translation.{widen, narrow, work, literal, truth, spread, shift_op, nothing}
+use Rattle.krml_cstar.specs.Numbers.{widen, narrow, work, literal, truth, spread, shift_op}
+use Rattle.krml_cstar.specs.Translation.{nothing}
 use Rattle.krml_cstar.proofs.WellFormedCode.{TypeFits}
 
 -- ---- shapes

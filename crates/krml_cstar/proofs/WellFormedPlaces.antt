@@ -21,7 +21,10 @@ use Rattle.krml_ctree.specs.Shape.{IsVariable, IsStruct, IsTable, IsFunction, Is
 use Rattle.krml_ctree.specs.WellFormed.{Scope, of_var, HasType, HaveTypes}
 use Rattle.krml_meaning.proofs.Lists.{same_some, no_some}
 use Rattle.krml_cstar.specs.Built.{is_ty_built}
-use Rattle.krml_cstar.specs.Translation.{ctype, is_unit, Known, Names, Out, Outs, Comp, ItemOut, ItemComp, value, params_from, cvars}
+use Rattle.krml_cstar.specs.Types.{ctype, is_unit}
+use Rattle.krml_cstar.specs.Variables.{Known, KnownVars}
+use Rattle.krml_cstar.specs.Translation.{Out, Outs, Comp, ItemOut, ItemComp, value, params_from, cvars}
+use Rattle.krml_cstar.specs.Variables as variables
 use Rattle.krml_cstar.specs.Translation as tr
 use Rattle.krml_cstar.proofs.Lookups.{fields_of}
 use Rattle.krml_cstar.proofs.WellFormedCode.{Within, TypeFits, Laid, laid_none, laid_then}
@@ -82,13 +85,13 @@ module _ (p : CProgram) where
     pub shape : IsVariable k.emitted
     pub there : Contains g (of_var (record { ty = ctype a; name = k.emitted }))
 
-  abbrev pub Scoped : Scope → Names → Vars → Type 0
+  abbrev pub Scoped : Scope → KnownVars → Vars → Type 0
   Scoped g [] [] = Unit {0}
   Scoped g (k ∷ names) (v ∷ vars) = InScope g k v.0 v.1 × Scoped g names vars
   Scoped g _ _ = ⊥
 
   -- a larger scope has them too
-  pub scoped_on : (g h : Scope) → Within g h → (names : Names) (vars : Vars) → Scoped g names vars → Scoped h names vars
+  pub scoped_on : (g h : Scope) → Within g h → (names : KnownVars) (vars : Vars) → Scoped g names vars → Scoped h names vars
   scoped_on g h w [] [] s = tt
   scoped_on g h w [] (v ∷ vars) s = absurd s
   scoped_on g h w (k ∷ names) [] s = absurd s
@@ -108,7 +111,7 @@ module _ (p : CProgram) where
   abbrev pub Values : Vars → Type 0
   Values vars = AllByRecursion (λ v. is_unit v.1 ≡ false) vars
 
-  pub scoped_values : (g : Scope) (names : Names) (vars : Vars) → Scoped g names vars → Values vars
+  pub scoped_values : (g : Scope) (names : KnownVars) (vars : Vars) → Scoped g names vars → Values vars
   scoped_values g [] [] s = tt
   scoped_values g [] (v ∷ vars) s = absurd s
   scoped_values g (k ∷ names) [] s = absurd s
@@ -123,13 +126,13 @@ module _ (p : CProgram) where
       go false q later = later q
 
   -- a name means a variable in scope
-  pub record Found (g : Scope) (names : Names) (x : List ℕ) (a : Ty) : Type 0 where
+  pub record Found (g : Scope) (names : KnownVars) (x : List ℕ) (a : Ty) : Type 0 where
     pub k : Known
     pub name : List ℕ
-    pub is : tr.look names x ≡ Some k
+    pub is : variables.look names x ≡ Some k
     pub entry : InScope g k name a
 
-  pub found : (g : Scope) (names : Names) (vars : Vars) (x : List ℕ) (a : Ty) → Scoped g names vars → typing.look vars x ≡ Some a → Found g names x a
+  pub found : (g : Scope) (names : KnownVars) (vars : Vars) (x : List ℕ) (a : Ty) → Scoped g names vars → typing.look vars x ≡ Some a → Found g names x a
   found g [] [] x a s e = absurd (no_some a e)
   found g [] (v ∷ vars) x a s e = absurd s
   found g (k ∷ names) [] x a s e = absurd s
@@ -159,11 +162,11 @@ module _ (p : CProgram) where
   -- The code of an expression of a type, behind these variables, in all scopes of C that have them.
   pub record Places (vars : Vars) (a : Ty) (co : Comp) : Type 0 where
     pub unit : Values vars → co.unit ≡ is_unit a
-    pub grows : (names : Names) (n : ℕ) → n ≤ (co.run names n).next
-    pub placed : (names : Names) (n : ℕ) (g : Scope) → (co.run names n).next ≤ 2 ^ 64 → Scoped g names vars → Placed a n g (co.run names n)
+    pub grows : (names : KnownVars) (n : ℕ) → n ≤ (co.run names n).next
+    pub placed : (names : KnownVars) (n : ℕ) (g : Scope) → (co.run names n).next ≤ 2 ^ 64 → Scoped g names vars → Placed a n g (co.run names n)
 
   -- a value without statements
-  pub value_placed : (a b : Ty) (x : CExpr) (names : Names) (n : ℕ) (g : Scope) → erased b ≡ a → TypeFits p (ctype a) → ExprKeeps x → (is_unit a ≡ false → HasType p g x (ctype a))
+  pub value_placed : (a b : Ty) (x : CExpr) (names : KnownVars) (n : ℕ) (g : Scope) → erased b ≡ a → TypeFits p (ctype a) → ExprKeeps x → (is_unit a ≡ false → HasType p g x (ctype a))
       → Placed a n g (value b x names n)
   value_placed a b x names n g ty fits keeps typed = record { after = g; laid = laid_none p n g; keeps = keeps; ty = ty; fits = fits; typed = typed }
 
@@ -188,8 +191,8 @@ module _ (p : CProgram) where
     pub typed : (vs : List CVar) → map (λ v. v.ty) vs ≡ map ctype types → HaveTypes p after o.values vs
 
   pub record PlacesAll (vars : Vars) (types : List Ty) (cs : List Comp) : Type 0 where
-    pub grows : (names : Names) (n : ℕ) → n ≤ (tr.all cs names n).next
-    pub placed : (names : Names) (n : ℕ) (g : Scope) → (tr.all cs names n).next ≤ 2 ^ 64 → Scoped g names vars → PlacedAll types n g (tr.all cs names n)
+    pub grows : (names : KnownVars) (n : ℕ) → n ≤ (tr.all cs names n).next
+    pub placed : (names : KnownVars) (n : ℕ) (g : Scope) → (tr.all cs names n).next ≤ 2 ^ 64 → Scoped g names vars → PlacedAll types n g (tr.all cs names n)
 
   -- ---- items
 
@@ -201,5 +204,5 @@ module _ (p : CProgram) where
   -- Items lead from these variables to those of what follows.
   pub record ItemsPlace (vars more : Vars) (i : ItemComp) : Type 0 where
     pub values : Values vars → Values more
-    pub grows : (names : Names) (n : ℕ) → n ≤ (i names n).next
-    pub placed : (names : Names) (n : ℕ) (g : Scope) → (i names n).next ≤ 2 ^ 64 → Scoped g names vars → PlacedItems more n g (i names n)
+    pub grows : (names : KnownVars) (n : ℕ) → n ≤ (i names n).next
+    pub placed : (names : KnownVars) (n : ℕ) (g : Scope) → (i names n).next ≤ 2 ^ 64 → Scoped g names vars → PlacedItems more n g (i names n)

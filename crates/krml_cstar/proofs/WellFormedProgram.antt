@@ -34,7 +34,9 @@ use Rattle.krml_meaning.proofs.Lists.{each_so, each_append, each_among, map_twic
 use Rattle.krml_meaning.proofs.Files.{through, each_def}
 use Rattle.krml_cstar.specs.Built.{is_ty_built, are_fields_built, is_built}
 use Rattle.krml_cstar.specs.Count.{HaveFewVariables, variables_of}
-use Rattle.krml_cstar.specs.Translation.{ctype, is_unit, named, Names, Out, code_of, params_from, cvars, fun_code, structs_of, tables_of, funs_of, program_of}
+use Rattle.krml_cstar.specs.Types.{ctype, is_unit}
+use Rattle.krml_cstar.specs.Variables.{named, KnownVars}
+use Rattle.krml_cstar.specs.Translation.{Out, code_of, params_from, cvars, fun_code, structs_of, tables_of, funs_of, program_of}
 use Rattle.krml_cstar.proofs.Lookups.{fields_of}
 use Rattle.krml_cstar.proofs.VariableNames.{name_is, number-named}
 use Rattle.krml_cstar.proofs.WellFormedNames.{Fresh, named_is, fresh_none, fresh_one, fresh_both}
@@ -102,7 +104,7 @@ module _ (p : CProgram) where
     few : ((code_of defs body).run (params_from 0 params) (length params)).next ≤ 2 ^ 64
 
   module _ (defs : List Def) (x : List ℕ) (params : List Field) (result : Ty) (body : Expr) (r : FunReady defs x params result body) where
-    abbrev known : Names
+    abbrev known : KnownVars
     known = params_from 0 params
 
     abbrev fun : CFun

@@ -15,7 +15,10 @@ use Rattle.krml_cstar.specs.declared.emitter.Emitter.{Emitter}
 use Rattle.krml_cstar.specs.declared.given.Given.{Given}
 use Rattle.krml_cstar.specs.declared.given.Apart.{Apart}
 use Rattle.krml_ast.specs.Names.{fun_named}
-use Rattle.krml_cstar.specs.Translation.{ctype, var, plain, work, nothing, is_unit, result_of, Comp, Out, Outs, ItemComp, ItemOut, code_step, item_step, structs_of, tables_of, funs_of}
+use Rattle.krml_cstar.specs.Types.{ctype, is_unit}
+use Rattle.krml_cstar.specs.Variables.{var, plain}
+use Rattle.krml_cstar.specs.Numbers.{work}
+use Rattle.krml_cstar.specs.Translation.{nothing, result_of, Comp, Out, Outs, ItemComp, ItemOut, code_step, item_step, structs_of, tables_of, funs_of}
 
 -- the field of a struct
 abbrev pub field_code : Field → CVar

@@ -8,7 +8,8 @@ use Rattle.krml_ast.specs.declared.event.SourceEvent.TheVariants as source
 use Rattle.krml_ctree.specs.declared.event.CEvent.{CEvent}
 use Rattle.krml_ctree.specs.declared.event.CEvent.TheVariants as c
 use Rattle.krml_ctree.specs.declared.event.CSlot.{CSlot}
-use Rattle.krml_cstar.specs.Translation.{ctype, tables_of}
+use Rattle.krml_cstar.specs.Types.{ctype}
+use Rattle.krml_cstar.specs.Translation.{tables_of}
 
 -- ---- events
 

@@ -2,6 +2,9 @@ pub mod Built
 pub mod Count
 pub mod Emitting
 pub mod Image
+pub mod Numbers
 pub mod Scopes
 pub mod Theorem
 pub mod Translation
+pub mod Types
+pub mod Variables

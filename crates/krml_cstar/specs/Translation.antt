@@ -2,23 +2,18 @@
 -- An expression becomes statements and a C expression, with operands from left to right. It is a function from the names in
 -- scope and the number of the next variable; types are computed on the way.
 
-use Rattle.std.specs.Prelude.{ℕ, suc, ◌+◌, ◌-◌, ◌==◌, Bool, true, false, if◌then◌else◌, List, [], ◌∷◌, ◌++◌, map, length, codes, Option, Some, None}
-use Rattle.std.specs.Fmt.{decimal}
+use Rattle.std.specs.Prelude.{ℕ, suc, ◌+◌, Bool, true, false, if◌then◌else◌, List, [], ◌∷◌, ◌++◌, map, length, Option, Some, None}
 use Rattle.std.specs.List.{flat_map}
-use Rattle.std.specs.Str.{bytes_eq}
-use Rattle.krml_trace.specs.declared.width.Width.{Width}
-use Rattle.krml_trace.specs.declared.width.Width.TheVariants.{W8, W32, W64}
-use Rattle.krml_trace.specs.Width.{bits, same_width}
+use Rattle.krml_trace.specs.declared.width.Width.TheVariants.{W8, W32}
+use Rattle.krml_trace.specs.Width.{same_width}
 use Rattle.krml_syntax.specs.declared.tree.IntTy.{IntTy}
 use Rattle.krml_syntax.specs.declared.tree.Ty.{Ty, out-Ty}
 use Rattle.krml_syntax.specs.declared.tree.Ty.TheVariants as ty
 use Rattle.krml_syntax.specs.declared.tree.Ty.TheOpen.{Ty-F}
-use Rattle.krml_syntax.specs.declared.tree.Ty.TheFolds.{fold-Ty}
 use Rattle.krml_syntax.specs.declared.tree.Field.{Field}
 use Rattle.krml_syntax.specs.declared.tree.BinOp.{BinOp}
 use Rattle.krml_syntax.specs.declared.tree.BinOp.TheVariants as op
 use Rattle.krml_syntax.specs.declared.tree.CmpOp.{CmpOp}
-use Rattle.krml_syntax.specs.declared.tree.CmpOp.TheVariants as cmp
 use Rattle.krml_syntax.specs.declared.tree.Expr.{Expr}
 use Rattle.krml_syntax.specs.declared.tree.Expr.TheOpen.{Expr-F, Item-F}
 use Rattle.krml_syntax.specs.declared.tree.Expr.TheFolds.{fold-Expr}
@@ -26,13 +21,11 @@ use Rattle.krml_syntax.specs.declared.tree.Def.{Def}
 use Rattle.krml_syntax.specs.declared.tree.Def.TheVariants as d
 use Rattle.krml_syntax.specs.declared.tree.SourceFile.{SourceFile}
 use Rattle.krml_ast.specs.Names.{Signature, struct_named, table_named, fun_named, field_named}
-use Rattle.krml_syntax.specs.Types.{is_unit_in, u32}
-use Rattle.krml_ctree.specs.declared.tree.CType.{CType}
+use Rattle.krml_syntax.specs.Types.{u32}
 use Rattle.krml_ctree.specs.declared.tree.CType.TheVariants as ct
 use Rattle.krml_ctree.specs.declared.tree.CVar.{CVar}
 use Rattle.krml_ctree.specs.declared.tree.CBin.{CBin}
 use Rattle.krml_ctree.specs.declared.tree.CBin.TheVariants as cop
-use Rattle.krml_ctree.specs.declared.tree.CmpKind.{CmpKind}
 use Rattle.krml_ctree.specs.declared.tree.CmpKind.TheVariants as ck
 use Rattle.krml_ctree.specs.declared.tree.CExpr.{CExpr}
 use Rattle.krml_ctree.specs.declared.tree.CExpr.TheVariants as c
@@ -44,43 +37,9 @@ use Rattle.krml_ctree.specs.declared.tree.CTable.{CTable}
 use Rattle.krml_ctree.specs.declared.tree.CFun.{CFun}
 use Rattle.krml_ctree.specs.declared.tree.CProgram.{CProgram}
 use Rattle.krml_ctree.specs.Text.{width_type}
-
--- ---- types and names
-
-abbrev pub ctype_in : Ty-F CType → CType
-ctype_in (Ty-F.Int i) = width_type i.width
-ctype_in Ty-F.Bool = ct.U8
-ctype_in (Ty-F.Buf a) = ct.Ptr a
-ctype_in (Ty-F.Named x args) = ct.Struct x
--- no values of C have these types
-ctype_in Ty-F.Unit = ct.U8
-ctype_in (Ty-F.Var x) = ct.U8
-
-abbrev pub ctype : Ty → CType
-ctype = fold-Ty CType ctype_in
-
--- vk
-abbrev pub plain : ℕ → List ℕ
-plain k = codes "v" ++ decimal k
-
--- vk_NAME for a variable of the source, and vk for one that a pass made, whose name begins with a quote
-abbrev pub named : ℕ → List ℕ → List ℕ
-named k [] = plain k
-named k (b ∷ bs) = if b == 39 then plain k else plain k ++ codes "_" ++ (b ∷ bs)
-
--- A variable in scope: as the source names it, as C names it, and its type.
-pub record Known : Type 0 where
-  pub name : List ℕ
-  pub emitted : List ℕ
-  pub ty : Ty
-
--- the variables in scope, the newest first
-abbrev pub Names : Type 0
-Names = List Known
-
-abbrev pub look : List Known → List ℕ → Option Known
-look [] x = None
-look (k ∷ vars) x = if bytes_eq k.name x then Some k else look vars x
+use Rattle.krml_cstar.specs.Types.{ctype, is_unit}
+use Rattle.krml_cstar.specs.Variables.{plain, named, Known, KnownVars, look, var}
+use Rattle.krml_cstar.specs.Numbers.{widen, narrow, work, literal, truth, spread, shift_op, kind}
 
 -- ---- code
 
@@ -95,67 +54,40 @@ pub record Out : Type 0 where
 -- Whether an expression gives nothing is known before its code: the variable for a result is numbered before the branches.
 pub record Comp : Type 0 where
   pub unit : Bool
-  pub run : Names → ℕ → Out
+  pub run : KnownVars → ℕ → Out
 
 abbrev pub nothing : CExpr
 nothing = c.Lit W32 0
 
-abbrev pub gives : (Names → ℕ → Out) → Comp
+abbrev pub gives : (KnownVars → ℕ → Out) → Comp
 gives f = record { unit = false; run = f }
 
-abbrev pub does : (Names → ℕ → Out) → Comp
+abbrev pub does : (KnownVars → ℕ → Out) → Comp
 does f = record { unit = true; run = f }
 
-abbrev pub var : ℕ → CType → CVar
-var k a = record { ty = a; name = plain k }
-
-abbrev pub value : Ty → CExpr → Names → ℕ → Out
+abbrev pub value : Ty → CExpr → KnownVars → ℕ → Out
 value a e names n = record { code = []; value = e; ty = a; next = n }
 
--- ---- numbers
-
--- computed with at width 32 or 64
-abbrev pub widen : Width → CExpr → CExpr
-widen W8 e = c.Cast W32 e
-widen W32 e = e
-widen W64 e = e
-
-abbrev pub narrow : Width → CExpr → CExpr
-narrow W8 e = c.Cast W8 e
-narrow W32 e = e
-narrow W64 e = e
-
-abbrev pub work : Width → Width
-work W8 = W32
-work W32 = W32
-work W64 = W64
-
-abbrev pub literal : Width → ℕ → CExpr
-literal W8 n = c.Cast W8 (c.Lit W32 n)
-literal W32 n = c.Lit W32 n
-literal W64 n = c.Lit W64 n
-
-abbrev pub truth : Bool → CExpr
-truth b = literal W8 (if b then 1 else 0)
+-- ---- operands, numbers
 
 -- two operands from left to right
-abbrev pub operands : Comp → Comp → (CExpr → CExpr → Names → ℕ → Out) → Names → ℕ → Out
+abbrev pub operands : Comp → Comp → (CExpr → CExpr → KnownVars → ℕ → Out) → KnownVars → ℕ → Out
 operands a b f names n =
     let oa = a.run names n in
     let ob = b.run names oa.next in
     let o = f oa.value ob.value names ob.next in
     record { code = oa.code ++ ob.code ++ o.code; value = o.value; ty = o.ty; next = o.next }
 
-abbrev pub operand : Comp → (Out → Names → ℕ → Out) → Names → ℕ → Out
+abbrev pub operand : Comp → (Out → KnownVars → ℕ → Out) → KnownVars → ℕ → Out
 operand a f names n =
     let oa = a.run names n in
     let o = f oa names oa.next in
     record { code = oa.code ++ o.code; value = o.value; ty = o.ty; next = o.next }
 
-abbrev pub arithmetic : CBin → IntTy → CExpr → CExpr → Names → ℕ → Out
+abbrev pub arithmetic : CBin → IntTy → CExpr → CExpr → KnownVars → ℕ → Out
 arithmetic o i a b names n = value (ty.Int i) (narrow i.width (c.Bin o (widen i.width a) (widen i.width b))) names n
 
-abbrev pub divided : Bool → IntTy → CExpr → CExpr → Names → ℕ → Out
+abbrev pub divided : Bool → IntTy → CExpr → CExpr → KnownVars → ℕ → Out
 divided quotient i a b names n = record {
   code = st.Div (var n (width_type (work i.width))) quotient (widen i.width a) (widen i.width b) ∷ [];
   value = narrow i.width (c.Var (plain n));
@@ -163,12 +95,8 @@ divided quotient i a b names n = record {
   next = n + 1;
 }
 
--- the highest bit, shifted down, less one: all ones where it is 0
-abbrev pub spread : IntTy → CExpr → CExpr
-spread i e = narrow i.width (c.Bin cop.Sub (c.Bin cop.Shr e (c.Lit W32 (bits (work i.width) - 1))) (c.Lit (work i.width) 1))
-
 -- x = (a ^ b), and ((x | (0 - x)) >> (w - 1)) - 1
-abbrev pub eq_mask : IntTy → CExpr → CExpr → Names → ℕ → Out
+abbrev pub eq_mask : IntTy → CExpr → CExpr → KnownVars → ℕ → Out
 eq_mask i a b names n =
     let x = c.Var (plain n) in
     record {
@@ -179,7 +107,7 @@ eq_mask i a b names n =
     }
 
 -- x = a, y = b, and ((x ^ ((x ^ y) | ((x - y) ^ y))) >> (w - 1)) - 1
-abbrev pub gte_mask : IntTy → CExpr → CExpr → Names → ℕ → Out
+abbrev pub gte_mask : IntTy → CExpr → CExpr → KnownVars → ℕ → Out
 gte_mask i a b names n =
     let x = c.Var (plain n) in
     let y = c.Var (plain (n + 1)) in
@@ -190,7 +118,7 @@ gte_mask i a b names n =
       next = n + 2;
     }
 
-abbrev pub binary : BinOp → IntTy → CExpr → CExpr → Names → ℕ → Out
+abbrev pub binary : BinOp → IntTy → CExpr → CExpr → KnownVars → ℕ → Out
 binary op.Add = arithmetic cop.Add
 binary op.Sub = arithmetic cop.Sub
 binary op.Mul = arithmetic cop.Mul
@@ -202,34 +130,22 @@ binary op.Rem = divided false
 binary op.EqMask = eq_mask
 binary op.GteMask = gte_mask
 
-abbrev pub shift_op : Bool → CBin
-shift_op true = cop.Shl
-shift_op false = cop.Shr
-
-abbrev pub shifted : Bool → IntTy → CExpr → CExpr → Names → ℕ → Out
+abbrev pub shifted : Bool → IntTy → CExpr → CExpr → KnownVars → ℕ → Out
 shifted left i a b names n = value (ty.Int i) (narrow i.width (c.Bin (shift_op left) (widen i.width a) b)) names n
 
-abbrev pub kind : CmpOp → CmpKind
-kind cmp.Eq = ck.Eq
-kind cmp.Ne = ck.Ne
-kind cmp.Lt = ck.Lt
-kind cmp.Le = ck.Le
-kind cmp.Gt = ck.Gt
-kind cmp.Ge = ck.Ge
-
-abbrev pub compared : CmpOp → IntTy → CExpr → CExpr → Names → ℕ → Out
+abbrev pub compared : CmpOp → IntTy → CExpr → CExpr → KnownVars → ℕ → Out
 compared o i a b names n = value ty.Bool (c.Cmp W8 (kind o) (widen i.width a) (widen i.width b)) names n
 
-abbrev pub opposite : Out → Names → ℕ → Out
+abbrev pub opposite : Out → KnownVars → ℕ → Out
 opposite a names n = value ty.Bool (c.Cast W8 (c.Bin cop.Xor (c.Cast W32 a.value) (c.Lit W32 1))) names n
 
 -- the operand as it is where the C type is the same
-abbrev pub converted : IntTy → IntTy → Out → Names → ℕ → Out
+abbrev pub converted : IntTy → IntTy → Out → KnownVars → ℕ → Out
 converted i j a names n = value (ty.Int j) (if same_width i.width j.width then a.value else c.Cast j.width a.value) names n
 
 -- ---- variables, structs, tables, calls
 
-abbrev pub variable : Option Known → Names → ℕ → Out
+abbrev pub variable : Option Known → KnownVars → ℕ → Out
 variable (Some k) names n = value k.ty (c.Var k.emitted) names n
 variable None names n = value ty.Unit nothing names n
 
@@ -238,14 +154,14 @@ pub record Outs : Type 0 where
   pub values : List CExpr
   pub next : ℕ
 
-abbrev pub all : List Comp → Names → ℕ → Outs
+abbrev pub all : List Comp → KnownVars → ℕ → Outs
 all [] names n = record { code = []; values = []; next = n }
 all (a ∷ more) names n =
     let o = a.run names n in
     let os = all more names o.next in
     record { code = o.code ++ os.code; values = o.value ∷ os.values; next = os.next }
 
-abbrev pub built : List ℕ → List Comp → Names → ℕ → Out
+abbrev pub built : List ℕ → List Comp → KnownVars → ℕ → Out
 built x es names n = let os = all es names n in record { code = os.code; value = c.Build x os.values; ty = ty.Named x []; next = os.next }
 
 abbrev pub type_or_unit : Option Ty → Ty
@@ -265,14 +181,14 @@ field_type defs y Ty-F.Unit = ty.Unit
 field_type defs y (Ty-F.Buf a) = ty.Unit
 field_type defs y (Ty-F.Var x) = ty.Unit
 
-abbrev pub got : List Def → List ℕ → Out → Names → ℕ → Out
+abbrev pub got : List Def → List ℕ → Out → KnownVars → ℕ → Out
 got defs y a names n = value (field_type defs y (out-Ty a.ty)) (c.Field a.value y) names n
 
 abbrev pub table_type : Option IntTy → Ty
 table_type (Some i) = ty.Int i
 table_type None = ty.Unit
 
-abbrev pub looked_up : List Def → List ℕ → Out → Names → ℕ → Out
+abbrev pub looked_up : List Def → List ℕ → Out → KnownVars → ℕ → Out
 looked_up defs x a names n =
     let r = table_type (table_named defs x) in
     record { code = st.Tab (var n (ctype r)) x a.value ∷ []; value = c.Var (plain n); ty = r; next = n + 1 }
@@ -281,13 +197,10 @@ abbrev pub result_of : Option Signature → Ty
 result_of (Some f) = f.result
 result_of None = ty.Unit
 
-abbrev pub is_unit : Ty → Bool
-is_unit a = is_unit_in (out-Ty a)
-
-abbrev pub ran : Ty → List ℕ → List Comp → Names → ℕ → Out
+abbrev pub ran : Ty → List ℕ → List Comp → KnownVars → ℕ → Out
 ran r f es names n = let os = all es names n in record { code = os.code ++ st.Run f os.values ∷ []; value = nothing; ty = r; next = os.next }
 
-abbrev pub called : Ty → List ℕ → List Comp → Names → ℕ → Out
+abbrev pub called : Ty → List ℕ → List Comp → KnownVars → ℕ → Out
 called r f es names n =
     let os = all es names n in
     record { code = os.code ++ st.Call (var os.next (ctype r)) f os.values ∷ []; value = c.Var (plain os.next); ty = r; next = os.next + 1 }
@@ -310,14 +223,14 @@ into r o = o.code ++ st.Set (plain r) o.value ∷ []
 abbrev pub arm : CExpr → List CStatement → CArm
 arm test body = roll-CArm (record { test = test; body = body })
 
-abbrev pub if_unit : Comp → Comp → Comp → Names → ℕ → Out
+abbrev pub if_unit : Comp → Comp → Comp → KnownVars → ℕ → Out
 if_unit t a b names n =
     let ot = t.run names n in
     let oa = a.run names ot.next in
     let ob = b.run names oa.next in
     record { code = ot.code ++ st.Chain (arm ot.value oa.code ∷ []) ob.code ∷ []; value = nothing; ty = oa.ty; next = ob.next }
 
-abbrev pub if_value : Comp → Comp → Comp → Names → ℕ → Out
+abbrev pub if_value : Comp → Comp → Comp → KnownVars → ℕ → Out
 if_value t a b names n =
     let ot = t.run names n in
     let r = ot.next in
@@ -330,11 +243,11 @@ choice t a b = record { unit = a.unit; run = λ names n. if a.unit then if_unit 
 
 pub record ItemOut : Type 0 where
   pub code : List CStatement
-  pub names : Names
+  pub names : KnownVars
   pub next : ℕ
 
 abbrev pub ItemComp : Type 0
-ItemComp = Names → ℕ → ItemOut
+ItemComp = KnownVars → ℕ → ItemOut
 
 abbrev pub bound : List ℕ → Ty → Comp → ItemComp
 bound x a e names n =
@@ -361,13 +274,13 @@ block is a = record {
       record { code = oi.code ++ oa.code; value = oa.value; ty = oa.ty; next = oa.next };
 }
 
-abbrev pub while : Comp → Comp → Names → ℕ → Out
+abbrev pub while : Comp → Comp → KnownVars → ℕ → Out
 while t a names n =
     let ot = t.run names n in
     let oa = a.run names ot.next in
     record { code = st.Loop ot.code ot.value oa.code ∷ []; value = nothing; ty = ty.Unit; next = oa.next }
 
-abbrev pub for : List ℕ → Comp → Comp → Comp → Names → ℕ → Out
+abbrev pub for : List ℕ → Comp → Comp → Comp → KnownVars → ℕ → Out
 for x a b e names n =
     let oa = a.run names n in
     let ob = b.run names oa.next in

@@ -11,7 +11,10 @@ ghost use Rattle.krml_ctree.specs.declared.tree.CmpKind.TheVariants.{Lt};
 ghost use Rattle.krml_ctree.specs.declared.tree.CType.TheVariants as ct;
 ghost use Rattle.krml_ctree.specs.declared.tree.CExpr.TheVariants.{Var as variable_of, Field as field_of, Cmp as compared_by};
 ghost use Rattle.krml_ctree.specs.declared.tree.CStatement.TheVariants as st;
-ghost use Rattle.krml_cstar.specs.Translation.{code_of, all, items as items_code, variable, look, ctype, plain, named, var, binary, field_type, looked_up, table_type, result_of, nothing, arm, divided, eq_mask, gte_mask, stepped, work};
+ghost use Rattle.krml_cstar.specs.Types.{ctype};
+ghost use Rattle.krml_cstar.specs.Variables.{look, plain, named, var};
+ghost use Rattle.krml_cstar.specs.Numbers.{work};
+ghost use Rattle.krml_cstar.specs.Translation.{code_of, all, items as items_code, variable, binary, field_type, looked_up, table_type, result_of, nothing, arm, divided, eq_mask, gte_mask, stepped};
 ghost use Rattle.krml_cstar.specs.Scopes.{cut};
 ghost use Rattle.krml_cstar.specs.Emitting.{item_code, behind, after, after_all, after_items, beside, below, given, apart, alone, calling, differs};
 

@@ -6,7 +6,8 @@ ghost use Rattle.krml_trace.specs.Width.{same_width};
 ghost use Rattle.krml_syntax.specs.declared.tree.Ty.TheVariants.{Unit as unit_type, Int as int_type, Bool as bool_type, Named as struct_type};
 ghost use Rattle.krml_ctree.specs.declared.tree.CBin.TheVariants.{Xor};
 ghost use Rattle.krml_ctree.specs.declared.tree.CExpr.TheVariants.{Cmp as compared_by, Bin as binary_of, Cast as cast_to, Lit as number_of, Build as struct_of};
-ghost use Rattle.krml_cstar.specs.Translation.{nothing, truth, literal, narrow as narrowed, widen as widened, shift_op, kind};
+ghost use Rattle.krml_cstar.specs.Numbers.{truth, literal, narrow as narrowed, widen as widened, shift_op, kind};
+ghost use Rattle.krml_cstar.specs.Translation.{nothing};
 
 use crate::numbers::{compared, converted, literal, opposite, shifted, truth};
 use crate::terms::{Term, Values, build, lit};

@@ -1,7 +1,7 @@
 //! The variables in scope.
 
 ghost use Rattle.std.specs.Prelude.{◌≡◌, ◌∷◌, [], OnOk, length, option_map};
-ghost use Rattle.krml_cstar.specs.Translation.{look};
+ghost use Rattle.krml_cstar.specs.Variables.{look};
 ghost use Rattle.krml_cstar.specs.Scopes.{known, cut};
 
 use krml_ast::Ty;
@@ -29,7 +29,7 @@ impl<'a> Model for Locals<'a> {
     ghost use Rattle.std.specs.Prelude.{◌≡◌, List, map, reverse};
     ghost use Rattle.std.specs.Coded.{codes};
     ghost use Rattle.krml_syntax.specs.contracts.tree.Ty as ty;
-    ghost use Rattle.krml_cstar.specs.Translation.{Known};
+    ghost use Rattle.krml_cstar.specs.Variables.{Known};
     ghost use Rattle.krml_cstar.specs.Scopes.{known, placed};
 
     ghost Value = { List Known };

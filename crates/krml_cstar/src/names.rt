@@ -1,7 +1,7 @@
 //! The names of variables in C.
 
 ghost use Rattle.std.specs.Prelude.{◌≡◌, ◌++◌, ◌∷◌, IfOk};
-ghost use Rattle.krml_cstar.specs.Translation.{plain, named};
+ghost use Rattle.krml_cstar.specs.Variables.{plain, named};
 
 use krml_trace::{Name, NoMemory};
 use std::alloc::Global;

@@ -5,7 +5,7 @@ ghost use Rattle.krml_trace.specs.declared.width.Width.TheVariants.{W8, W32};
 ghost use Rattle.krml_trace.specs.Width.{bits, same_width};
 ghost use Rattle.krml_ctree.specs.declared.tree.CBin.TheVariants.{Xor};
 ghost use Rattle.krml_ctree.specs.declared.tree.CExpr.TheVariants.{Lit as number_of, Cast as cast_to, Bin as binary_of, Cmp as compared_by};
-ghost use Rattle.krml_cstar.specs.Translation.{widen, narrow, work, literal, truth, spread, shift_op, kind};
+ghost use Rattle.krml_cstar.specs.Numbers.{widen, narrow, work, literal, truth, spread, shift_op, kind};
 
 use crate::terms::{Term, bin, cast, cmp, lit};
 use krml_ast::{CmpOp, IntTy};

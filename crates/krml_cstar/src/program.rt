@@ -5,7 +5,9 @@ ghost use Rattle.krml_ctree.specs.WellFormed.{WellFormed};
 ghost use Rattle.krml_cstar.specs.Built.{AreBuilt};
 ghost use Rattle.krml_cstar.specs.Count.{variables_of, HaveFewVariables};
 ghost use Rattle.krml_cstar.specs.Theorem.{DoesTheSame};
-ghost use Rattle.krml_cstar.specs.Translation.{code_of, params_from, cvars, ctype, named, is_unit, fun_code, program_of};
+ghost use Rattle.krml_cstar.specs.Types.{ctype, is_unit};
+ghost use Rattle.krml_cstar.specs.Variables.{named};
+ghost use Rattle.krml_cstar.specs.Translation.{code_of, params_from, cvars, fun_code, program_of};
 ghost use Rattle.krml_cstar.specs.Scopes.{known};
 ghost use Rattle.krml_cstar.specs.Emitting.{field_code, with_def, apart};
 

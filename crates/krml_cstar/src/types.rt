@@ -2,7 +2,7 @@
 
 ghost use Rattle.std.specs.Prelude.{◌≡◌, [], IfOk, IsOkAnd};
 ghost use Rattle.krml_syntax.specs.declared.tree.Ty.TheVariants.{Named as struct_type};
-ghost use Rattle.krml_cstar.specs.Translation.{ctype, is_unit};
+ghost use Rattle.krml_cstar.specs.Types.{ctype, is_unit};
 
 use krml_ast::{Ty, clone_ty};
 use krml_ctree::{CType, CVar};

@@ -7,7 +7,8 @@ use Rattle.krml_ctree.specs.declared.tree.CExpr.{CExpr}
 use Rattle.krml_ctree.specs.declared.tree.CExpr.TheVariants as ce
 use Rattle.krml_cstar.specs.declared.emitter.Emitter.{Emitter}
 use Rattle.krml_cstar.specs.declared.given.Given.{Given}
-use Rattle.krml_cstar.specs.Translation.{Outs, code_of, all, items, binary, shifted, compared, widen, narrow, shift_op, kind}
+use Rattle.krml_cstar.specs.Numbers.{widen, narrow, shift_op, kind}
+use Rattle.krml_cstar.specs.Translation.{Outs, code_of, all, items, binary, shifted, compared}
 use Rattle.krml_cstar.specs.Emitting.{item_code, after, after_all, after_items, beside, given, apart}
 use Rattle.krml_cstar.proofs.Emits.{bin_is, shift_is, cmp_is, tab_is, if_is, do_is, while_is, for_is, call_is, binary_ty, two_state, two_value, two_alone, tab_state, if_unit_state, if_unit_value, if_value_state, if_value_value, do_state, do_value, while_state, for_state, call_state, call_value, all_step}
 use Rattle.krml_cstar.proofs.emitter.Emitter.+emit.Goals as goal
