@@ -29,6 +29,20 @@ impl Write for Stalled {
     }
 }
 
+/// A device that refuses each call, for want of memory.
+#[derive(Drop)]
+struct Full;
+
+impl Write for Full {
+    fn write(&mut self, _buf: &[u8]) -> io::Result<usize> {
+        Err(io::Error::from(ErrorKind::OutOfMemory))
+    }
+
+    fn flush(&mut self) -> io::Result<()> {
+        Ok(())
+    }
+}
+
 #[test]
 fn words_of_all(rt: HostRuntime) -> Result<(), Fail> {
     let name = Name::new(rt.alloc(), b"x_1")?;
@@ -62,6 +76,9 @@ fn real_sink(rt: HostRuntime) {
     let mut stalled = RealSink::new(Stalled);
     assert_eq!(rt; stalled.write(b""), Ok(0));
     assert_eq!(rt; stalled.write(b"abc"), Err(SinkFault::Failed));
+    let mut full = RealSink::new(Full);
+    assert_eq!(rt; full.write(b""), Err(SinkFault::Failed));
+    assert_eq!(rt; full.write(b"abc"), Err(SinkFault::Failed));
 }
 
 #[test]

@@ -1,4 +1,7 @@
-ghost use Rattle.std.specs.Prelude.{◌≡◌, None, IfOk, ◌≤◌, length};
+//! The source and the sink at the system's readers and writers.
+
+ghost use Rattle.std.specs.Prelude.{◌≡◌, None, IfOk, IfErr, ◌≤◌, length};
+ghost use Rattle.krml_trace.specs.Outside.{Writes};
 
 use crate::outside::{Failed, Sink, SinkFault, Source};
 use std::io::{Read, Write};
@@ -57,7 +60,11 @@ impl<W: Write + Drop> Sink for RealSink<W> {
 
     ghost faults = { λ s. s.faults };
 
-    fn write(&mut self, piece: &[u8]) -> Result<usize, SinkFault> {
+    fn write(&mut self, piece: &[u8]) -> Result<usize, SinkFault>
+        ensures writes { Writes None None self.old.faults self.new.faults piece.now result }
+        // A writer that lacks memory is at fault too.
+        ensures never { IfErr result (λ fault. fault ≡ SinkFault.Failed) }
+    {
         match self.inner.write(piece) {
             Ok(n) if n > 0 || piece.is_empty() => Ok(n),
             _ => {
