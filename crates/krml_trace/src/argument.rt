@@ -1,3 +1,5 @@
+//! An argument of a run.
+
 use crate::width::Width;
 use sqlite_items::Items as Seq;
 

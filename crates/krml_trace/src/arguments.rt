@@ -1,3 +1,5 @@
+//! The arguments of a run.
+
 ghost use Rattle.std.specs.Prelude.{IsTrue};
 ghost use Rattle.std.specs.List.{list_all};
 ghost use Rattle.krml_trace.specs.Argument.{fits};

@@ -1,3 +1,5 @@
+//! A sink over memory that fails where it is told to.
+
 ghost use Rattle.std.specs.Prelude.{◌≡◌, ◌≤◌, ◌↔◌, ◌++◌, [], take, IsErrOf, IfOk, Contains, Some};
 ghost use Rattle.krml_trace.specs.Outside.{Writes, counted};
 ghost use Rattle.krml_trace.specs.MemoryEnds.{taken};

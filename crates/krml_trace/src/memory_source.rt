@@ -1,3 +1,5 @@
+//! A source over memory that fails where it is told to.
+
 ghost use Rattle.std.specs.Prelude.{◌≡◌, ◌≤◌, ◌↔◌, ◌++◌, [], length, take, drop, IsErr, IfOk, OnErr, Contains, Some};
 ghost use Rattle.krml_trace.specs.Outside.{Reads, counted};
 ghost use Rattle.krml_trace.specs.MemoryEnds.{given};

@@ -1,3 +1,5 @@
+//! What a run comes to.
+
 use sqlite_items::Items as Seq;
 
 /// Why a run of the source is stuck.

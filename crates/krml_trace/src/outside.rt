@@ -1,3 +1,5 @@
+//! Where bytes come from and go to.
+
 ghost use Rattle.std.specs.Prelude.{List, ℕ, Option, ◌≤◌, OnErr, OnOk, ◌≡◌};
 ghost use Rattle.krml_trace.specs.Outside.{Reads, Writes};
 

@@ -1,3 +1,5 @@
+//! Both of two results, or the first error.
+
 ghost use Rattle.std.specs.Prelude.{◌≡◌, IfOk, IfErr, IsOkAnd, IsErrAnd, MatchResult};
 
 /// Two results as one, of both values, or of the first error. A function that puts parts together takes them as results and

@@ -1,3 +1,5 @@
+//! A sink over memory that never fails.
+
 ghost use Rattle.std.specs.Prelude.{◌≡◌, ◌++◌, [], length, IfOk, IfErr, OnErr, Some};
 ghost use Rattle.krml_trace.specs.Outside.{Writes};
 

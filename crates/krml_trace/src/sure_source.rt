@@ -1,3 +1,5 @@
+//! A source over memory that never fails.
+
 ghost use Rattle.std.specs.Prelude.{◌≡◌, ◌≤◌, ◌++◌, length, min, take, drop, IfOk, IsOk, Some};
 ghost use Rattle.krml_trace.specs.Outside.{Reads};
 

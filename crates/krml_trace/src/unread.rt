@@ -1,3 +1,5 @@
+//! Bytes whose front was read.
+
 ghost use Rattle.std.specs.Prelude.{◌≡◌, ◌++◌, length, min, take, drop, IfOk};
 
 use sqlite_items::Items as Seq;

@@ -1,3 +1,5 @@
+//! Why a run ends before it is done.
+
 use crate::outcome::Cause;
 
 /// Why a run ended before it was done, in any of the languages.

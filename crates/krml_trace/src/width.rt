@@ -1,3 +1,5 @@
+//! Widths of integer types.
+
 ghost use Rattle.std.specs.Prelude.{◌≡◌, ◌%◌, ◌^◌};
 ghost use Rattle.krml_trace.specs.Argument.{fits_width};
 ghost use Rattle.krml_trace.specs.Width.{bits, same_width};
