@@ -1,3 +1,5 @@
+//! A type that a definition writes.
+
 ghost use Rattle.std.specs.Prelude.{◌≡◌};
 ghost use Rattle.krml_ast.specs.Components.{code_of};
 

@@ -1,3 +1,5 @@
+//! What a run of the source leaves as events.
+
 use krml_syntax::{Slot, Ty};
 use krml_trace::Seq;
 

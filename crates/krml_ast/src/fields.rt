@@ -1,3 +1,5 @@
+//! The type of a field, found by the field's name.
+
 ghost use Rattle.std.specs.Prelude.{◌≡◌, option_map};
 ghost use Rattle.krml_ast.specs.Names.{field_named};
 

@@ -1,3 +1,5 @@
+//! The names of one kind, each with the place where it was given first.
+
 ghost use Rattle.std.specs.Prelude.{◌≡◌, ℕ, List, [], ◌∷◌, None, OnOk};
 ghost use Rattle.krml_ast.specs.Found.{has};
 ghost use Rattle.krml_ast.specs.Places.{is_among, cons_of, place_or};

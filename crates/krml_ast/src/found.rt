@@ -1,3 +1,5 @@
+//! What is known of a definition that was found by its name.
+
 use krml_syntax::{Con, Field, Ty};
 use krml_trace::Name;
 

@@ -1,3 +1,5 @@
+//! The kinds of names that definitions give.
+
 /// The kinds of names that definitions give, each by itself.
 #[derive(Clone, Copy, Debug, PartialEq, Eq)]
 pub enum NameKind {

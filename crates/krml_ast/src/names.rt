@@ -1,3 +1,5 @@
+//! The definitions of a file, found by their names.
+
 ghost use Rattle.std.specs.Prelude.{◌≡◌, ℕ, List, IfOk, option_map};
 ghost use Rattle.krml_ast.specs.declared.kind.NameKind.{NameKind as Kind};
 ghost use Rattle.krml_ast.specs.Names.{vars_named, struct_named, sum_named, con_in, con_named, table_named, fun_named};

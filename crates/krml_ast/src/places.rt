@@ -1,3 +1,5 @@
+//! The names that definitions gave so far, kind by kind.
+
 ghost use Rattle.std.specs.Prelude.{◌≡◌, ℕ, List, None, OnOk};
 ghost use Rattle.krml_ast.specs.declared.kind.NameKind.{NameKind as Kind};
 ghost use Rattle.krml_ast.specs.Found.{has_of};

@@ -1,3 +1,5 @@
+//! What a run of the source comes to.
+
 use crate::event::SourceEvent;
 use krml_trace::{Outcome, Seq};
 

@@ -1,3 +1,5 @@
+//! The command line as clap is told of it.
+
 ghost use Rattle.std.specs.Prelude.{◌≡◌, false, map, IfOk};
 ghost use Rattle.std.specs.String.{string_bytes};
 ghost use Rattle.clap.specs.Words.{app_of, kind_of, rule_of};

@@ -1,3 +1,5 @@
+//! The numbers that options take, and those that stand where none is given.
+
 ghost use Rattle.std.specs.Prelude.{◌≡◌, ◌≤◌, IfSome, option_map};
 ghost use Rattle.krml_command.specs.Values.{number_in, setting};
 

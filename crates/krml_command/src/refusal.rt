@@ -1,3 +1,5 @@
+//! Why words of a command line are refused.
+
 use krml_trace::NoMemory;
 use thiserror::Error;
 

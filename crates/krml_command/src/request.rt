@@ -1,3 +1,5 @@
+//! What a command line asks for.
+
 use krml_trace::Seq;
 
 /// What a command line asks for.

@@ -1,3 +1,5 @@
+//! What a run of C leaves as events.
+
 use crate::tree::CType;
 use krml_trace::Seq;
 

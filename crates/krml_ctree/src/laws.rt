@@ -1,3 +1,5 @@
+//! Laws about texts and programs, as contracts of calls that do nothing.
+
 ghost use Rattle.std.specs.Prelude.{List, ℕ, ◌≡◌, ◌↔◌};
 ghost use Rattle.krml_ctree.specs.declared.tree.CProgram.{CProgram};
 ghost use Rattle.krml_ctree.specs.Shape.{KeepsShapes};

@@ -1,3 +1,5 @@
+//! What a run of C comes to.
+
 use crate::event::CEvent;
 use krml_trace::{Outcome, Seq};
 

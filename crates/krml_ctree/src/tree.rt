@@ -1,3 +1,5 @@
+//! The trees of C: types, expressions, statements and programs.
+
 ghost use Rattle.std.specs.Prelude.{◌≡◌};
 ghost use Rattle.krml_ctree.specs.Text.{width_type};
 

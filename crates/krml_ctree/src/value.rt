@@ -1,3 +1,5 @@
+//! Values of C.
+
 use krml_trace::{Name, Seq, Width};
 
 /// A value.

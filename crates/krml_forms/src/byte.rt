@@ -1,3 +1,5 @@
+//! Which bytes are white space, and which stand in words.
+
 ghost use Rattle.std.specs.Prelude.{◌≡◌};
 ghost use Rattle.krml_trace.specs.Byte.{is_white};
 ghost use Rattle.krml_forms.specs.Text.{is_word};

@@ -1,3 +1,5 @@
+//! The comments of a text, blanked out byte by byte.
+
 ghost use Rattle.std.specs.Prelude.{◌≡◌, false};
 ghost use Rattle.krml_forms.specs.Text.{plain_byte, comment_after};
 

@@ -1,3 +1,5 @@
+//! How many forms a form has, itself and those in it.
+
 ghost use Rattle.std.specs.Prelude.{◌≡◌, ◌+◌, ◌≤◌, ◌^◌, IfOk, OnErr, map, sum};
 ghost use Rattle.krml_forms.specs.Levels.{form_count};
 

@@ -1,3 +1,5 @@
+//! A text cut into words and parentheses, byte by byte.
+
 ghost use Rattle.std.specs.Prelude.{List, ℕ, IfOk, OnOk, [], ◌≡◌, false, length};
 ghost use Rattle.krml_forms.specs.Text.{is_word};
 ghost use Rattle.krml_forms.specs.Cut.{Reads, Ends, Symbol, reading, forms_of_plain};

@@ -1,3 +1,5 @@
+//! The first fault of syntax of a text.
+
 ghost use Rattle.std.specs.Prelude.{◌≡◌, ◌<◌, ◌^◌, MatchOption};
 ghost use Rattle.krml_forms.specs.Faults.{IsFaultAt, IsFirst, HasNone};
 ghost use Rattle.krml_forms.specs.Scan.{depth_after};

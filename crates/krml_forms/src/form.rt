@@ -1,3 +1,5 @@
+//! Forms: words and lists of forms.
+
 use krml_trace::Seq;
 
 /// A form of a text: an atom, which is a run of letters, digits, `_` and `'`, or a list of forms between parentheses.

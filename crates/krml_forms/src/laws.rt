@@ -1,3 +1,5 @@
+//! Laws about texts and forms, as contracts of calls that do nothing.
+
 ghost use Rattle.std.specs.Prelude.{◌≡◌, ℕ, List};
 ghost use Rattle.krml_trace.specs.Limits.{max_levels};
 ghost use Rattle.krml_forms.specs.Text.{HasForms};

@@ -1,3 +1,5 @@
+//! Forms put together from words and parentheses, with a limit on the lists that are open.
+
 ghost use Rattle.std.specs.Prelude.{List, OnOk, [], ◌∷◌, ◌≡◌, length};
 ghost use Rattle.krml_forms.specs.Text.{Token, Open, Close, Word};
 ghost use Rattle.krml_forms.specs.Nest.{Takes, after, nest};

@@ -1,3 +1,5 @@
+//! The forms of a text, or why it has none.
+
 ghost use Rattle.std.specs.Prelude.{IfOk};
 ghost use Rattle.krml_forms.specs.Faults.{IsDeepAt, IsFirst};
 ghost use Rattle.krml_forms.specs.Reading.{HasReading};

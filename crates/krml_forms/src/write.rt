@@ -1,3 +1,5 @@
+//! The text of forms.
+
 ghost use Rattle.std.specs.Prelude.{◌≡◌, ◌++◌, ◌∷◌, [], map, OnOk, IfOk};
 ghost use Rattle.krml_forms.specs.Writing.{joined, form_text, forms_text, space};
 

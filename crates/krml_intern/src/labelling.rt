@@ -1,3 +1,5 @@
+//! What becomes of the labels of a type that is read.
+
 /// What becomes of the labels of a type that is read.
 #[derive(Clone, Copy)]
 pub enum Labelling {

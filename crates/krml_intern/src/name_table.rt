@@ -1,3 +1,5 @@
+//! Names by number, each once.
+
 ghost use Rattle.std.specs.Prelude.{◌≡◌, [], IfOk, OnErr, slice_get, option_map};
 ghost use Rattle.krml_intern.specs.Puts.{Puts};
 

@@ -1,3 +1,5 @@
+//! The variables in scope, the newest of a name found by a map.
+
 ghost use Rattle.std.specs.Prelude.{◌≡◌, ◌∷◌, ◌-◌, ◌≤◌, [], OnOk, OnErr, length, drop, take, slice_get, false};
 ghost use Rattle.std.specs.Bool.{Decides};
 ghost use Rattle.std.specs.Option.{MatchOption};

@@ -1,3 +1,5 @@
+//! The `alloc` forms that have more elements than a limit.
+
 ghost use Rattle.std.specs.Prelude.{◌≡◌};
 ghost use Rattle.std.specs.List.{flat_map};
 ghost use Rattle.krml_syntax.specs.Limits.{is_alloc_in, first_above, own_length, alloc_lengths};

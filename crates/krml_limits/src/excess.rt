@@ -1,3 +1,5 @@
+//! A limit that is exceeded, and the count.
+
 use krml_syntax::LimitKind;
 
 /// A limit that a file exceeds: what it bounds, and how much of that there is.

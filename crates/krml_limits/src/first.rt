@@ -1,3 +1,5 @@
+//! The first limit that a file exceeds.
+
 ghost use Rattle.std.specs.Prelude.{◌≡◌, ◌≤◌, ◌^◌, IfOk, OnErr, option_map};
 ghost use Rattle.krml_syntax.specs.Limits.{limit_of, first_above, counts_in, counts_each, excess, first_excess_of, first_excess};
 ghost use Rattle.krml_forms.specs.Levels.{form_count};

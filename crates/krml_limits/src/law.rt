@@ -1,3 +1,5 @@
+//! A law about limits, as the contract of a call that does nothing.
+
 ghost use Rattle.std.specs.Prelude.{◌≡◌, ◌↔◌, List, None};
 ghost use Rattle.krml_forms.specs.declared.form.Form.{Form};
 ghost use Rattle.krml_syntax.specs.declared.tree.Def.{Def};

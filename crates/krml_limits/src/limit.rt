@@ -1,3 +1,5 @@
+//! The number of each limit.
+
 ghost use Rattle.std.specs.Prelude.{◌≡◌, [], ◌∷◌};
 ghost use Rattle.krml_syntax.specs.Limits.{limit_of, first_above};
 

@@ -1,3 +1,5 @@
+//! Words that are longer than a limit.
+
 ghost use Rattle.std.specs.Prelude.{◌≡◌};
 ghost use Rattle.std.specs.List.{flat_map};
 ghost use Rattle.krml_syntax.specs.Limits.{first_above, word_length, word_lengths};

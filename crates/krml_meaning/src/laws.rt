@@ -1,3 +1,5 @@
+//! Laws about runs of the source, as contracts of calls that do nothing.
+
 ghost use Rattle.krml_meaning.specs.Sound.{CheckedFilesRun, TypedFilesRun};
 
 /// Runs of well typed files are sound: of an entry, on arguments that fit, none is undefined and none is trapped. Where one is

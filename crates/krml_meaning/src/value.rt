@@ -1,3 +1,5 @@
+//! Values of the source.
+
 use krml_trace::{Name, Seq, Width};
 
 /// A value of the source.

@@ -1,3 +1,5 @@
+//! Names of the source, which no reserved word is.
+
 ghost use Rattle.std.specs.Prelude.{◌≡◌};
 ghost use Rattle.std.specs.List.{list_all};
 ghost use Rattle.krml_trace.specs.Byte.{is_letter, is_name_byte};

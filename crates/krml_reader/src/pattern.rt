@@ -1,3 +1,5 @@
+//! The pattern that a form spells.
+
 ghost use Rattle.std.specs.Prelude.{◌≡◌};
 ghost use Rattle.krml_trace.specs.Gives.{Gives};
 ghost use Rattle.krml_reader.specs.Pattern.{bound_of, word_by, atom_of, number_of, parts_at, con_at, make_at, pat_at, list_at, pats_of};

@@ -1,3 +1,5 @@
+//! The file that a text spells, or why it is refused.
+
 ghost use Rattle.std.specs.Prelude.{◌≡◌, IfOk, List, ℕ, Result};
 ghost use Rattle.krml_trace.specs.Limits.{max_levels};
 ghost use Rattle.krml_forms.specs.declared.form.Form.{Form};

@@ -1,3 +1,5 @@
+//! Why a text is refused.
+
 use krml_syntax::LimitKind;
 use krml_trace::NoMemory;
 use thiserror::Error;

@@ -1,3 +1,5 @@
+//! The type that a form spells.
+
 ghost use Rattle.std.specs.Prelude.{◌≡◌};
 ghost use Rattle.krml_trace.specs.Gives.{Gives};
 ghost use Rattle.krml_reader.specs.Each.{below};

@@ -1,3 +1,5 @@
+//! Type variables, integer types and numbers that forms spell.
+
 ghost use Rattle.std.specs.Prelude.{◌≡◌};
 ghost use Rattle.krml_trace.specs.Gives.{Gives};
 ghost use Rattle.krml_reader.specs.Words.{var_of, var_at, int_at, number_of_width, length_by, length_at};

@@ -1,3 +1,5 @@
+//! A law about files that were written, as the contract of a call that does nothing.
+
 ghost use Rattle.std.specs.Prelude.{◌≡◌, ℕ, List, Result};
 ghost use Rattle.krml_syntax.specs.declared.tree.SourceFile.{SourceFile};
 ghost use Rattle.krml_syntax.specs.File.{SpellsFile};

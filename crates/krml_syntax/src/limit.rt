@@ -1,3 +1,5 @@
+//! The kinds of limits.
+
 /// What a limit bounds, in the order in which limits are answered.
 #[derive(Clone, Copy, Debug, PartialEq, Eq)]
 pub enum LimitKind {

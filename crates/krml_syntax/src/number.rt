@@ -1,3 +1,5 @@
+//! The number that a word spells.
+
 ghost use Rattle.std.specs.Prelude.{◌≡◌, true, ◌≤◌, length};
 ghost use Rattle.krml_syntax.specs.Number.{is_digits, is_plain, are_hex_digits, decimal_of, value_of, hex_value_of, hexadecimal_of, number_of, number_at};
 

@@ -1,3 +1,5 @@
+//! The trees of the source: types, patterns, expressions and definitions.
+
 use krml_trace::{Box, Name, Seq, Width};
 
 /// An integer type: a width, and whether its values are secret.

@@ -1,3 +1,5 @@
+//! Command lines that are read, and that are refused.
+
 use krml_command::{Command, Request, Settings, WordsRefusal, read_words};
 use krml_trace::NoMemory;
 use std::alloc::Global;

@@ -1,3 +1,5 @@
+//! Sources and sinks, those over memory and those of the system.
+
 use krml_trace::{
     Failed, MemSink, MemSource, Name, RealSink, RealSource, Seq, Sink, SinkFault, Source, SureSink,
     SureSource, Width,

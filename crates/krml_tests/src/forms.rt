@@ -1,3 +1,5 @@
+//! Texts and their forms.
+
 use krml_forms::{Form, Reading, form_count, read_forms, write_forms};
 use krml_trace::NoMemory;
 use std::alloc::Global;

@@ -1,3 +1,5 @@
+//! Limits that are exceeded by one.
+
 use krml_forms::Form;
 use krml_limits::{Excess, first_excess};
 use krml_syntax::{Def, Expr, LimitKind, Ty};

@@ -1,3 +1,5 @@
+//! A struct, a constructor or a function at type arguments.
+
 use krml_ast::Component;
 
 /// A struct, a constructor or a function at type arguments.

@@ -1,3 +1,5 @@
+//! The types of expressions.
+
 ghost use Rattle.std.specs.Prelude.{◌≡◌, List, Option, OnOk, map, Some, None};
 ghost use Rattle.krml_syntax.specs.declared.tree.Ty.{Ty, out-Ty};
 ghost use Rattle.krml_syntax.specs.declared.tree.Ty.TheVariants.{Bool, Unit, Buf};

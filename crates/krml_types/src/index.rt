@@ -1,3 +1,5 @@
+//! The definitions of a file by name, and which structs hold a buffer.
+
 ghost use Rattle.std.specs.Prelude.{◌≡◌, length, IfOk};
 ghost use Rattle.krml_types.specs.Holds.{holds_by, is_set, holders};
 

@@ -1,3 +1,5 @@
+//! What expressions are judged with: names, and types by number.
+
 ghost use Rattle.std.specs.Prelude.{◌≡◌, ℕ, List, [], ◌∷◌, ◌-◌, OnOk, length, take, map, IfOk, Some, None, option_map};
 ghost use Rattle.std.specs.Bool.{Decides};
 ghost use Rattle.std.specs.Option.{option_copied};

@@ -1,3 +1,5 @@
+//! What a field tells of whether its struct holds a buffer.
+
 /// What a field tells of whether its struct holds a buffer.
 #[derive(Drop)]
 pub enum Part {

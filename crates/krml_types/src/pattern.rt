@@ -1,3 +1,5 @@
+//! Patterns at a type, and the variables that they bind.
+
 ghost use Rattle.std.specs.Prelude.{◌≡◌, List, ◌∷◌, OnOk, Some, map};
 ghost use Rattle.krml_syntax.specs.declared.tree.Ty.{Ty};
 ghost use Rattle.krml_syntax.specs.declared.tree.Ty.TheVariants.{Bool};

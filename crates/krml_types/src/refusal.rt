@@ -1,3 +1,5 @@
+//! Why types are refused.
+
 use krml_trace::NoMemory;
 use thiserror::Error;
 

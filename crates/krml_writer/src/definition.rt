@@ -1,3 +1,5 @@
+//! The form of a definition.
+
 ghost use Rattle.std.specs.Prelude.{◌≡◌, ◌∷◌, IfOk, IsOkAnd, map};
 ghost use Rattle.krml_writer.specs.Written.{form_of_var, form_of_number, form_of_field, form_of_con, form_of_def};
 

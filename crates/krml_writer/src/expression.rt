@@ -1,3 +1,5 @@
+//! The form of an expression.
+
 ghost use Rattle.std.specs.Prelude.{◌≡◌, [], ◌∷◌, ◌++◌, IfOk, IsOkAnd, codes, map};
 ghost use Rattle.krml_writer.specs.Written.{applied_form, frame_form, form_of_expr, form_of_item, form_of_arm};
 

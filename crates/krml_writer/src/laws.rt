@@ -1,3 +1,5 @@
+//! A law about texts that were written, as the contract of a call that does nothing.
+
 ghost use Rattle.std.specs.Prelude.{◌≡◌, ℕ, ◌≤◌, List, length, None};
 ghost use Rattle.krml_trace.specs.Limits.{max_text};
 ghost use Rattle.krml_forms.specs.Levels.{AllWithin};

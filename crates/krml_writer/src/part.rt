@@ -1,3 +1,5 @@
+//! Forms that may fail to be made, and lists of them.
+
 ghost use Rattle.std.specs.Prelude.{◌≡◌, [], ◌∷◌, ◌++◌, IfOk, IsOkAnd, Ok, map};
 ghost use Rattle.std.specs.Fmt.{decimal};
 ghost use Rattle.krml_writer.specs.Parts.{AllOkAnd};

@@ -1,3 +1,5 @@
+//! The forms of types and patterns.
+
 ghost use Rattle.std.specs.Prelude.{◌≡◌, IfOk, IsOkAnd, map};
 ghost use Rattle.krml_writer.specs.Written.{named_form, form_of_ty, form_of_pat};
 

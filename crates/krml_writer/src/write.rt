@@ -1,3 +1,5 @@
+//! The text of a file.
+
 ghost use Rattle.std.specs.Prelude.{◌≡◌, IfOk};
 ghost use Rattle.krml_writer.specs.Written.{text_of};
 
