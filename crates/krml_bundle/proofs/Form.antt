@@ -1,5 +1,5 @@
 -- A hoisted file under the new names has the form of a bundled one.
-use Rattle.std.proofs.Common.{◌≡◌, ℕ, suc, Bool, true, false, List, [], ◌∷◌, ◌++◌, map, flat_map, take, codes, Some, slice_get, Contains, bytes_eq, refl, sym, ap, ◌∙◌, subst, append-nil, append_assoc}
+use Rattle.std.proofs.Common.{◌≡◌, ℕ, suc, Bool, true, false, List, [], ◌∷◌, ◌++◌, if◌then◌else◌, map, flat_map, take, codes, Some, None, slice_get, Contains, bytes_eq, refl, sym, ap, ◌∙◌, subst, append-nil, append_assoc}
 use Rattle.std.specs.List.{AllByRecursion, IsDistinct}
 use Rattle.std.proofs.lemmas.List.Concat.{flat_map-append}
 use Rattle.std.proofs.lemmas.List.Elements.{Contains-append_left, Contains-push}
@@ -10,7 +10,8 @@ use Rattle.krml_syntax.specs.declared.tree.SourceFile.{SourceFile}
 use Rattle.krml_syntax.specs.Name.{IsName}
 use Rattle.krml_ast.specs.declared.file.Emitted.{Emitted}
 use Rattle.krml_ast.specs.WellTyped.{WellTyped, AreWellTyped, type_name, con_names, table_name, fun_name, entry_name}
-use Rattle.krml_ast.specs.FileTypes.{IsSourceName, IsVariable, IsPlainName, IsEmitted, AreNamed, field_names, IsHoisted, IsBundled}
+use Rattle.krml_ast.specs.FileTypes.{IsSourceName, IsVariable, IsPlainName, IsEmitted, AreNamed, field_names, IsHoisted, IsBundled, emitted_name}
+use Rattle.krml_meaning.specs.Meaning.{has_entry}
 use Rattle.krml_bundle.specs.Emitted.{emitted_fun, emitted_type, emitted_table, emitted_field}
 use Rattle.krml_bundle.specs.Bundled.{def_bundled, bundled, names_of_def, names_of}
 use Rattle.krml_bundle.proofs.FormNames.{each_map, names_under, plain_prefix, emitted_shape, type_name_bundled, con_names_bundled, table_name_bundled, fun_name_bundled, field_names_bundled}
@@ -54,6 +55,20 @@ entry_names (d.Sum x vars cons ∷ defs) = entry_names defs
 entry_names (d.Table x i nums ∷ defs) = entry_names defs
 entry_names (d.Fun x vars params result body ∷ defs) = entry_names defs
 entry_names (d.Entry x ∷ defs) = ap (λ z. x ∷ z) (entry_names defs)
+
+-- The emitted name of an entry is the new name of its function.
+pub entries_named : (defs : List Def) (x : List ℕ) → emitted_name (of_all defs) x ≡ (if has_entry defs x then Some (emitted_fun x) else None)
+entries_named [] x = refl
+entries_named (d.Struct y vars fields ∷ defs) x = entries_named defs x
+entries_named (d.Sum y vars cons ∷ defs) x = entries_named defs x
+entries_named (d.Table y i nums ∷ defs) x = entries_named defs x
+entries_named (d.Fun y vars params result body ∷ defs) x = entries_named defs x
+entries_named (d.Entry y ∷ defs) x = go (bytes_eq y x) refl (entries_named defs x)
+  where
+    go : (b : Bool) → bytes_eq y x ≡ b → emitted_name (of_all defs) x ≡ (if has_entry defs x then Some (emitted_fun x) else None)
+        → (if b then Some (emitted_fun y) else emitted_name (of_all defs) x) ≡ (if (if b then true else has_entry defs x) then Some (emitted_fun x) else None)
+    go true e h = ap (λ z. Some (emitted_fun z)) ((bytes_eq-Decides y x).0 e)
+    go false e h = h
 
 -- No entry's name was seen, or stands twice.
 abbrev AreFresh : List (List ℕ) → List Def → Type 0

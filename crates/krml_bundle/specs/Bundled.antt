@@ -1,5 +1,5 @@
 -- A file with the names that C has. All its definitions are kept, in their order.
-use Rattle.std.specs.Prelude.{◌≡◌, ℕ, List, [], ◌∷◌, map}
+use Rattle.std.specs.Prelude.{◌≡◌, ℕ, if◌then◌else◌, List, [], ◌∷◌, map, Some, None}
 use Rattle.std.specs.List.{flat_map}
 use Rattle.krml_trace.specs.declared.arguments.Arguments.{Arguments}
 use Rattle.krml_trace.specs.declared.bound.Bound.{Bound}
@@ -29,7 +29,8 @@ use Rattle.krml_ast.specs.declared.file.Emitted.{Emitted}
 use Rattle.krml_ast.specs.declared.event.SourceEvent.{SourceEvent}
 use Rattle.krml_ast.specs.declared.event.SourceEvent.TheVariants as event
 use Rattle.krml_ast.specs.declared.run.SourceRun.{SourceRun}
-use Rattle.krml_meaning.specs.Meaning.{source_run}
+use Rattle.krml_ast.specs.FileTypes.{emitted_name}
+use Rattle.krml_meaning.specs.Meaning.{ArgumentsFit, has_entry, source_run}
 use Rattle.krml_bundle.specs.Emitted.{emitted_fun, emitted_type, emitted_table, emitted_field}
 
 -- ---- types
@@ -160,3 +161,11 @@ run_bundled r = record { outcome = r.outcome; events = map event_bundled r.event
 -- Each run of the second file, at the new name of an entry, is that of the first under the new names.
 abbrev pub RunsAsBundled : SourceFile → SourceFile → Type 0
 RunsAsBundled file to = (entry : List ℕ) (args : Arguments) (bound : Bound) → source_run to (emitted_fun entry) args bound ≡ run_bundled (source_run file entry args bound)
+
+-- Arguments that fit an entry of the first file fit it in the second one, under its new name.
+abbrev pub FitAsBundled : SourceFile → SourceFile → Type 0
+FitAsBundled file to = (entry : List ℕ) (args : Arguments) → ArgumentsFit file entry args → ArgumentsFit to (emitted_fun entry) args
+
+-- The emitted name of an entry of the file is the new name of its function, and nothing else has one.
+abbrev pub NamesEntries : SourceFile → List Emitted → Type 0
+NamesEntries file names = (x : List ℕ) → emitted_name names x ≡ (if has_entry file.defs x then Some (emitted_fun x) else None)

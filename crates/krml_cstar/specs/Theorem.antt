@@ -1,12 +1,14 @@
--- What is said of the translation: a program does what the file does that it came from.
+-- What is said of the translation: a program does what the file does that it came from, and which files need no pass before.
 use Rattle.std.specs.Prelude.{◌≡◌, ℕ, List}
 use Rattle.krml_trace.specs.declared.arguments.Arguments.{Arguments}
 use Rattle.krml_trace.specs.declared.bound.Bound.{Bound}
 use Rattle.krml_trace.specs.Run.{NotStuck}
 use Rattle.krml_syntax.specs.declared.tree.SourceFile.{SourceFile}
+use Rattle.krml_ast.specs.FileTypes.{IsTypedFile, IsChecked, IsMono, IsPlain, IsHoisted}
 use Rattle.krml_meaning.specs.Meaning.{ArgumentsFit, source_run}
 use Rattle.krml_ctree.specs.declared.tree.CProgram.{CProgram}
 use Rattle.krml_ctree.specs.Meaning.{c_run}
+use Rattle.krml_cstar.specs.Built.{AreBuilt}
 use Rattle.krml_cstar.specs.Image.{image_c}
 
 -- On arguments that fit, and under any bound, a run of the program ends as the run of the file does, and leaves the events
@@ -15,3 +17,14 @@ abbrev pub DoesTheSame : SourceFile → CProgram → Type 0
 DoesTheSame file p = (entry : List ℕ) (args : Arguments) (bound : Bound) → ArgumentsFit file entry args → NotStuck (source_run file entry args bound).outcome
     → ((c_run p entry args bound).outcome ≡ (source_run file entry args bound).outcome)
     × ((c_run p entry args bound).events ≡ image_c file.defs (source_run file entry args bound).events)
+
+-- A file has the form of each file between passes before it is bundled.
+pub record HasEachForm (file : SourceFile) : Type 0 where
+  pub checked : IsChecked file
+  pub mono : IsMono file
+  pub plain : IsPlain file
+  pub hoisted : IsHoisted file
+
+-- So has each typed file whose definitions are built: no pass before the last has anything to do.
+abbrev pub BuiltFilesHaveForms : Type 0
+BuiltFilesHaveForms = (file : SourceFile) → IsTypedFile file → AreBuilt file.defs → HasEachForm file

@@ -3,6 +3,7 @@
 
 mod emitter;
 mod given;
+mod laws;
 mod locals;
 mod names;
 mod numbers;
@@ -11,4 +12,5 @@ mod statements;
 mod terms;
 mod types;
 
+pub use laws::built_files;
 pub use program::to_cstar;

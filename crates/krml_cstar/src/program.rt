@@ -1,6 +1,7 @@
 //! Programs of C for files.
 
 ghost use Rattle.std.specs.Prelude.{◌≡◌, ◌≤◌, ◌^◌, length, Some, None, IfOk, OnOk, map, if◌then◌else◌};
+ghost use Rattle.krml_ast.specs.FileTypes.{IsBundled};
 ghost use Rattle.krml_ctree.specs.WellFormed.{WellFormed};
 ghost use Rattle.krml_cstar.specs.Built.{AreBuilt};
 ghost use Rattle.krml_cstar.specs.Count.{variables_of, HaveFewVariables};
@@ -219,9 +220,10 @@ pub fn to_cstar(alloc: Global, file: &BundledFile) -> Result<CProgram, NoMemory>
     ensures value { IfOk result (λ p. p ≡ program_of file.now.0) }
     // No function has more variables than names tell apart.
     ensures few { OnOk result (HaveFewVariables file.now.0.defs) }
-    // The program is well formed, and on arguments that fit, under any bound, it does what the file does where that is not stuck.
-    ensures well_formed { IfOk result (λ p. ∥ WellFormed p ∥₁) }
-    ensures runs { IfOk result (λ p. ∥ DoesTheSame file.now.0 p ∥₁) }
+    // By the form that the file keeps, the program is well formed, and on arguments that fit, under any bound, it does what the
+    // file does where that is not stuck.
+    ensures well_formed { IfOk result (λ p. IsBundled file.now.0 file.now.1 → WellFormed p) }
+    ensures runs { IfOk result (λ p. IsBundled file.now.0 file.now.1 → DoesTheSame file.now.0 p) }
 {
     let program = translated(alloc, file.file())?;
     Ok(program)
