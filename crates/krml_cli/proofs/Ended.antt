@@ -1,21 +1,21 @@
 -- How the steps of a call make its end.
-use Rattle.std.proofs.Common.{◌≡◌, ℕ, List, Option, Some, None, Result, Ok, Err, Vec, refl, subst, sym, ap, ◌∙◌, true≢false}
+use Rattle.std.proofs.Common.{◌≡◌, ℕ, List, Option, Some, None, Result, Ok, Err, refl, subst, sym, ap, ◌∙◌, true≢false}
 use Rattle.std.specs.Result.{IsErr, IsErrAnd}
-use Rattle.std.specs.declared.alloc.Global.{Global}
 use Rattle.std.specs.Io.KnownBytes.{Appends}
 use Rattle.krml_trace.specs.declared.outside.SinkFault.TheVariants as fault
 use Rattle.krml_syntax.specs.declared.tree.SourceFile.{SourceFile}
 use Rattle.krml_syntax.specs.File.{SpellsFile}
+use Rattle.krml_ast.specs.FileTypes.{IsTypedFile}
 use Rattle.krml_ast.specs.WellTyped.{AreWellTyped}
+use Rattle.krml_meaning.specs.Sound.{CheckedFilesRun}
 use Rattle.krml_reader.specs.declared.refusal.ReadRefusal.{ReadRefusal}
 use Rattle.krml_reader.specs.declared.refusal.ReadRefusal.TheVariants as read
 use Rattle.krml_reader.specs.Read.{IsRefused}
 use Rattle.krml_types.specs.declared.refusal.TypeRefusal.{TypeRefusal}
 use Rattle.krml_types.specs.declared.refusal.TypeRefusal.TheVariants as types
 use Rattle.krml_types.specs.Check.{IsRightAnswer}
-use Rattle.krml_bundle.specs.Bundled.{bundled}
 use Rattle.krml_cstar.specs.Built.{AreBuilt, first_unbuilt, IsFirstUnbuilt}
-use Rattle.krml_cstar.specs.Translation.{program_of}
+use Rattle.krml_cli.specs.declared.output.Output.{Output}
 use Rattle.krml_cli.specs.declared.refusal.FileRefusal.{FileRefusal}
 use Rattle.krml_cli.specs.declared.refusal.FileRefusal.TheVariants as refusal
 use Rattle.krml_cli.specs.declared.stop.Stop.{Stop}
@@ -23,8 +23,8 @@ use Rattle.krml_cli.specs.declared.stop.Stop.TheVariants as stop
 use Rattle.krml_cli.specs.Accept.{IsAnswered, IsNotBuiltAt}
 use Rattle.krml_cli.specs.Ends.{CompilesTo, IsAccepted, AppendsPrefix, WritesAll, Call, Unwritten, Stops, Ends, line_of, status_of}
 use Rattle.krml_cli.specs.Refusal.{Accepts, Refuses, of_read, of_type}
-use Rattle.krml_cli.specs.Steps.{IsText, Runs, Notes, Reports}
-use Rattle.krml_cli.proofs.Accepted.{runs_well, program_well_formed, is_implemented}
+use Rattle.krml_cli.specs.Steps.{Runs, Notes, Reports}
+use Rattle.krml_cli.specs.Theorem.{IsCompiled, EachRunsWell}
 use Rattle.krml_cli.proofs.Refusals.{asks_is_no_usage}
 use Rattle.krml_cli.proofs.Unbuilt.{all_built}
 
@@ -79,28 +79,24 @@ accepted_by text file typed seen s e t f n = record {
 
 -- ---- the answer of a command
 
+-- the file of an input that is accepted is a typed one
+pub typed_by : (input : List ℕ) (file : SourceFile) → Accepts input file → IsTypedFile file
+typed_by input file a = record { spelled = record { text = input; spells = a.spelled }; typed = a.typed }
+
+-- its runs end as they should
+runs_well : CheckedFilesRun → (input : List ℕ) (file : SourceFile) → Accepts input file → EachRunsWell file
+runs_well law input file a = λ entry args bound fit. law file entry args bound (typed_by input file a) fit
+
 -- an input that is accepted
-pub is_accepted : (input : List ℕ) (file : SourceFile) → Accepts input file → IsAccepted input
-is_accepted input file a = record { file = file; accepted = a; sound = runs_well input file a }
+pub is_accepted : CheckedFilesRun → (input : List ℕ) (file : SourceFile) → Accepts input file → IsAccepted input
+is_accepted law input file a = record { file = file; accepted = a; sound = runs_well law input file a }
 
 -- what compiling made of the file of one
-pub compiles_by : (input text : List ℕ) (file : SourceFile) → Accepts input file → IsText file text → CompilesTo input text
-compiles_by input text file a h =
-    let well = program_well_formed input file a h.few in
-    record {
-      file = file;
-      program = program_of (bundled file);
-      accepted = a;
-      translated = refl;
-      is = h.is;
-      well_formed = well;
-      alone = h.alone well;
-      implemented = is_implemented input file a h.few;
-      sound = runs_well input file a;
-    }
+pub compiles_by : CheckedFilesRun → (input text : List ℕ) (file : SourceFile) → Accepts input file → (IsTypedFile file → IsCompiled file text) → CompilesTo input text
+compiles_by law input text file a h = record { file = file; accepted = a; compiled = h (typed_by input file a); sound = runs_well law input file a }
 
 -- a call that stops before anything is written
-pub stops_by : (c : Call) (why : Stop) → Runs c.words c.left c.left' c.reads c.reads' (Err why) → Unwritten c → Stops c why
+pub stops_by : (c : Call) (why : Stop) → Runs c.words c.left c.left' c.read_faults c.read_faults' (Err why) → Unwritten c → Stops c why
 stops_by c stop.Usage h u = Stops.usage h.0 h.1 h.2 u
 stops_by c stop.ReadFault h u = Stops.read_fault h.0.1 h.1 h.2 u
 stops_by c (stop.Refused why) h u = let r = h.0 in Stops.refused r.asked r.taken r.refused h.1 u
@@ -108,11 +104,11 @@ stops_by c stop.WriteFault h u = absurd h
 stops_by c stop.NoMemory h u = Stops.no_memory h.0 h.1 u
 
 -- what was written is the line that was made
-pub same_line : {noted noted' : Option (List ℕ)} {notes notes' own status : ℕ} (line other : List ℕ) → line ≡ other → Notes noted noted' notes notes' line own status → Notes noted noted' notes notes' other own status
-same_line {noted = noted} {noted' = noted'} {notes = notes} {notes' = notes'} {own = own} {status = status} line other e h = subst (λ l. Notes noted noted' notes notes' l own status) e h
+pub same_line : {noted noted' : Option (List ℕ)} {faults faults' own status : ℕ} (line other : List ℕ) → line ≡ other → Notes noted noted' faults faults' line own status → Notes noted noted' faults faults' other own status
+same_line {noted = noted} {noted' = noted'} {faults = faults} {faults' = faults'} {own = own} {status = status} line other e h = subst (λ l. Notes noted noted' faults faults' l own status) e h
 
 -- a call that stops and notes why
-noted_by : (c : Call) (why : Stop) (status : ℕ) → Stops c why → Notes c.noted c.noted' c.notes c.notes' (line_of why) (status_of why) status → Ends c status
+noted_by : (c : Call) (why : Stop) (status : ℕ) → Stops c why → Notes c.noted c.noted' c.note_faults c.note_faults' (line_of why) (status_of why) status → Ends c status
 noted_by c why _ s (Notes.whole a q) = Ends.noted s a q
 noted_by c why _ s (Notes.failed a l r) = Ends.note_failed s a l r
 noted_by c why _ s (Notes.lacked_memory a q) = Ends.note_lacked_memory s a q
@@ -122,21 +118,21 @@ lacks : (c : Call) (why : FileRefusal) → Stops c (stop.Refused why) → Stops 
 lacks c why (Stops.refused {command = command} w t r q u) = Stops.no_memory (λ h. absurd (asks_is_no_usage c.words command w h)) q u
 
 -- a call that stops and reports why
-pub ends_by : (c : Call) (why : Stop) (status : ℕ) → Stops c why → Reports c.noted c.noted' c.notes c.notes' status why → Ends c status
+pub ends_by : (c : Call) (why : Stop) (status : ℕ) → Stops c why → Reports c.noted c.noted' c.note_faults c.note_faults' status why → Ends c status
 ends_by c why status s (Reports.made n) = noted_by c why status s n
 ends_by c _ status s (Reports.unmade {why = why} n) = noted_by c stop.NoMemory status (lacks c why s) n
 
 -- a call whose whole output was written
-pub done_by : (c : Call) (text : Vec ℕ Global) (piece : List ℕ) → piece ≡ text.items → Runs c.words c.left c.left' c.reads c.reads' (Ok text) → Appends c.written c.written' piece × (c.writes' ≡ c.writes)
-    → c.noted' ≡ c.noted → c.notes' ≡ c.notes → Ends c 0
-done_by c text piece e r w n m = Ends.done r.0 r.1 (subst (Appends c.written c.written') e w.0) w.1 n m
+pub done_by : (c : Call) (out : Output) (piece : List ℕ) → piece ≡ out.text.items → Runs c.words c.left c.left' c.read_faults c.read_faults' (Ok out) → Appends c.written c.written' piece × (c.write_faults' ≡ c.write_faults)
+    → c.noted' ≡ c.noted → c.note_faults' ≡ c.note_faults → Ends c out.status
+done_by c out piece e r w n m = Ends.done r.0 r.1 (subst (Appends c.written c.written') e w.0) w.1 n m
 
 -- a call whose output failed
-pub failed_by : (c : Call) (text : Vec ℕ Global) (piece : List ℕ) → piece ≡ text.items → Runs c.words c.left c.left' c.reads c.reads' (Ok text) → WritesAll c.written c.written' c.writes c.writes' piece (Err fault.Failed)
+pub failed_by : (c : Call) (out : Output) (piece : List ℕ) → piece ≡ out.text.items → Runs c.words c.left c.left' c.read_faults c.read_faults' (Ok out) → WritesAll c.written c.written' c.write_faults c.write_faults' piece (Err fault.Failed)
     → Stops c stop.WriteFault
-failed_by c text piece e r w = Stops.write_fault r.0 r.1 (subst (AppendsPrefix c.written c.written') e w.0) w.1 w.2
+failed_by c out piece e r w = Stops.write_fault r.0 r.1 (subst (AppendsPrefix c.written c.written') e w.0) w.1 w.2
 
 -- a call whose output lacked memory
-pub lacked_by : (c : Call) (text : Vec ℕ Global) (piece : List ℕ) → piece ≡ text.items → Runs c.words c.left c.left' c.reads c.reads' (Ok text) → WritesAll c.written c.written' c.writes c.writes' piece (Err fault.NoMemory)
+pub lacked_by : (c : Call) (out : Output) (piece : List ℕ) → piece ≡ out.text.items → Runs c.words c.left c.left' c.read_faults c.read_faults' (Ok out) → WritesAll c.written c.written' c.write_faults c.write_faults' piece (Err fault.NoMemory)
     → Stops c stop.NoMemory
-lacked_by c text piece e r w = Stops.no_memory_to_write r.0 r.1 (subst (AppendsPrefix c.written c.written') e w.0) w.1
+lacked_by c out piece e r w = Stops.no_memory_to_write r.0 r.1 (subst (AppendsPrefix c.written c.written') e w.0) w.1

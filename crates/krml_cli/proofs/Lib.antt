@@ -1,6 +1,6 @@
-mod Accepted
 mod BuiltBundled
 mod Clauses
+mod Compiled
 mod Ended
 mod Known
 mod Refusals

@@ -15,7 +15,7 @@ use Rattle.krml_command.specs.declared.request.Request.{Request}
 use Rattle.krml_cli.specs.declared.refusal.FileRefusal.{FileRefusal}
 use Rattle.krml_cli.specs.declared.refusal.FileRefusal.TheVariants.{Read, «Type» as IllTyped, NotBuilt}
 use Rattle.krml_cli.specs.Ends.{Asks, IsUsage, AcceptsNone, Makes, max_text}
-use Rattle.krml_cli.specs.Refusal.{Accepts, Refuses}
+use Rattle.krml_cli.specs.Refusal.{Accepts, Refuses, IsCause}
 use Rattle.krml_cli.proofs.Unbuilt.{none_unbuilt}
 
 -- ---- what words ask for
@@ -105,10 +105,20 @@ module _ (one : OneAnswer) where
   one_refusal input command _ _ (Refuses.not_built {file = f} {def = j} u typed unbuilt) (Refuses.not_built {file = g} {def = k} v also other) =
       ap NotBuilt (some_is j k (sym unbuilt ∙ subst (λ (z : SourceFile). IsFirstUnbuilt z.defs k) (same_file input g f v u) other))
 
+-- want of memory refuses no input
+pub is_cause : (input : List ℕ) (command : Command) (why : FileRefusal) → Refuses input command why → IsCause why
+is_cause input command _ (Refuses.unread (Reads.too_large l)) = tt
+is_cause input command _ (Refuses.unread (Reads.syntax s f)) = tt
+is_cause input command _ (Refuses.unread (Reads.nesting s n f)) = tt
+is_cause input command _ (Refuses.unread (Reads.shape before f after formed spelled none)) = tt
+is_cause input command _ (Refuses.unread (Reads.limit formed spelled e)) = tt
+is_cause input command _ (Refuses.ill_typed s fault) = tt
+is_cause input command _ (Refuses.not_built s typed unbuilt) = tt
+
 -- what a command makes something of is accepted
-pub makes_accepted : (command : Command) (input text : List ℕ) → Makes command input text → (file : SourceFile) × Accepts input file
-makes_accepted C input text m = (m.file, m.accepted)
-makes_accepted Check input text m = (m.0.file, m.0.accepted)
+pub makes_accepted : (command : Command) (input text : List ℕ) (status : ℕ) → Makes command input text status → (file : SourceFile) × Accepts input file
+makes_accepted C input text status m = (m.0.file, m.0.accepted)
+makes_accepted Check input text status m = (m.0.file, m.0.accepted)
 
 -- and no longer than a text may be
 pub accepted_short : (input : List ℕ) (file : SourceFile) → Accepts input file → length input ≤ max_text

@@ -6,12 +6,6 @@ use Rattle.krml_trace.specs.Outside.{Rose}
 use Rattle.krml_trace.specs.declared.outside.SinkFault.{SinkFault}
 use Rattle.krml_trace.specs.declared.outside.SinkFault.TheVariants as fault
 use Rattle.krml_syntax.specs.declared.tree.SourceFile.{SourceFile}
-use Rattle.krml_ctree.specs.declared.tree.CProgram.{CProgram}
-use Rattle.krml_ctree.specs.Spelling.{SpelledAlone}
-use Rattle.krml_ctree.specs.Text.{text_of}
-use Rattle.krml_ctree.specs.WellFormed.{WellFormed}
-use Rattle.krml_bundle.specs.Bundled.{bundled}
-use Rattle.krml_cstar.specs.Translation.{program_of}
 use Rattle.krml_command.specs.declared.request.Command.{Command}
 use Rattle.krml_command.specs.declared.request.Command.TheVariants.{C, Check}
 use Rattle.krml_command.specs.declared.request.Request.{Request}
@@ -19,18 +13,23 @@ use Rattle.krml_command.specs.Request.{request_of}
 use Rattle.krml_cli.specs.declared.stop.Stop.{Stop}
 use Rattle.krml_cli.specs.declared.stop.Stop.TheVariants as stop
 use Rattle.krml_cli.specs.declared.refusal.FileRefusal.{FileRefusal}
-use Rattle.krml_cli.specs.Refusal.{Accepts, Refuses, refusal_line}
-use Rattle.krml_cli.specs.Theorem.{IsImplementedBy, EachRunsWell}
+use Rattle.krml_cli.specs.Refusal.{Accepts, Refuses, IsCause, refusal_line}
+use Rattle.krml_cli.specs.Theorem.{IsCompiled, EachRunsWell}
 
 -- the bytes of a source text at the most
 abbrev pub max_text : ℕ
 max_text = 1048576
 
--- The input was taken to its end, or to one byte past the limit.
-pub record Taken (left left' : Option (List ℕ)) (input : List ℕ) : Type 0 where
+-- the bytes of a command's input at the most
+abbrev pub limit_of : Command → ℕ
+limit_of C = max_text
+limit_of Check = max_text
+
+-- The input of a command was taken to its end, or to one byte past its limit.
+pub record Taken (command : Command) (left left' : Option (List ℕ)) (input : List ℕ) : Type 0 where
   pub consumed : Consumes left left' input
-  pub short : length input ≤ max_text + 1
-  pub whole : length input ≤ max_text → IsAtEnd left'
+  pub short : length input ≤ limit_of command + 1
+  pub whole : length input ≤ limit_of command → IsAtEnd left'
 
 -- A prefix of a piece was appended.
 pub record AppendsPrefix (written written' : Option (List ℕ)) (piece : List ℕ) : Type 0 where
@@ -45,12 +44,12 @@ WritesAll written written' faults faults' piece (Ok u) = Appends written written
 WritesAll written written' faults faults' piece (Err fault.Failed) = AppendsPrefix written written' piece × (faults ≤ faults') × Rose faults faults'
 WritesAll written written' faults faults' piece (Err fault.NoMemory) = AppendsPrefix written written' piece × (faults' ≡ faults)
 
--- What reading an input did.
-abbrev pub TakesInput : (left left' : Option (List ℕ)) (faults faults' : ℕ) → Result (Vec ℕ Global) Stop → Type 0
-TakesInput left left' faults faults' (Ok input) = Taken left left' input.items × (faults' ≡ faults)
-TakesInput left left' faults faults' (Err stop.ReadFault) = (faults ≤ faults') × Rose faults faults'
-TakesInput left left' faults faults' (Err stop.NoMemory) = faults' ≡ faults
-TakesInput left left' faults faults' (Err _) = ⊥
+-- What reading the input of a command did.
+abbrev pub TakesInput : Command → (left left' : Option (List ℕ)) (faults faults' : ℕ) → Result (Vec ℕ Global) Stop → Type 0
+TakesInput command left left' faults faults' (Ok input) = Taken command left left' input.items × (faults' ≡ faults)
+TakesInput command left left' faults faults' (Err stop.ReadFault) = (faults ≤ faults') × Rose faults faults'
+TakesInput command left left' faults faults' (Err stop.NoMemory) = faults' ≡ faults
+TakesInput command left left' faults faults' (Err _) = ⊥
 
 -- The words ask for a command. No pass is stored.
 pub record Asks (words : List (List ℕ)) (command : Command) : Type 0 where
@@ -62,17 +61,11 @@ pub record Asks (words : List (List ℕ)) (command : Command) : Type 0 where
 abbrev pub IsUsage : List (List ℕ) → Type 0
 IsUsage words = request_of [] words ≡ None
 
--- An input compiles to a text: it is accepted, and the text is that of its file's program. The program is well formed, the
--- text spells it alone, and it does what the file does, whose runs end as they should.
+-- An input compiles to a text: it is accepted, the text is the C text of its file, and the file's runs end as they should.
 pub record CompilesTo (input text : List ℕ) : Type 0 where
   pub file : SourceFile
-  pub program : CProgram
   pub accepted : Accepts input file
-  pub translated : program ≡ program_of (bundled file)
-  pub is : text ≡ text_of program
-  pub well_formed : WellFormed program
-  pub alone : SpelledAlone text program
-  pub implemented : IsImplementedBy file program
+  pub compiled : IsCompiled file text
   pub sound : EachRunsWell file
 
 -- An input is accepted, as some file, whose runs end as they should.
@@ -85,22 +78,22 @@ pub record IsAccepted (input : List ℕ) : Type 0 where
 abbrev pub accepted_line : List ℕ
 accepted_line = codes "accepted\n"
 
--- A command makes a text of an input.
-abbrev pub Makes : Command → List ℕ → List ℕ → Type 0
-Makes C input text = CompilesTo input text
-Makes Check input text = IsAccepted input × (text ≡ accepted_line)
+-- A command makes a text of an input, and ends with a status once that is written.
+abbrev pub Makes : Command → (input text : List ℕ) → (status : ℕ) → Type 0
+Makes C input text status = CompilesTo input text × (status ≡ 0)
+Makes Check input text status = IsAccepted input × (text ≡ accepted_line) × (status ≡ 0)
 
 -- No file is accepted.
 abbrev pub AcceptsNone : List ℕ → Type 0
 AcceptsNone input = (file : SourceFile) → Accepts input file → ⊥
 
--- The words ask for a command, the input was taken, and the command makes this text of it.
-pub record IsOutput (words : List (List ℕ)) (left left' : Option (List ℕ)) (text : List ℕ) : Type 0 where
+-- The words ask for a command, the input was taken, and the command makes this text of it, with this status.
+pub record IsOutput (words : List (List ℕ)) (left left' : Option (List ℕ)) (text : List ℕ) (status : ℕ) : Type 0 where
   pub command : Command
   pub input : List ℕ
   pub asked : Asks words command
-  pub taken : Taken left left' input
-  pub made : Makes command input text
+  pub taken : Taken command left left' input
+  pub made : Makes command input text status
 
 abbrev pub status_of : Stop → ℕ
 status_of (stop.Refused why) = 1
@@ -121,56 +114,64 @@ pub record Call : Type 0 where
   pub words : List (List ℕ)
   pub left : Option (List ℕ)
   pub left' : Option (List ℕ)
-  pub reads : ℕ
-  pub reads' : ℕ
+  pub read_faults : ℕ
+  pub read_faults' : ℕ
   pub written : Option (List ℕ)
   pub written' : Option (List ℕ)
-  pub writes : ℕ
-  pub writes' : ℕ
+  pub write_faults : ℕ
+  pub write_faults' : ℕ
   pub noted : Option (List ℕ)
   pub noted' : Option (List ℕ)
-  pub notes : ℕ
-  pub notes' : ℕ
+  pub note_faults : ℕ
+  pub note_faults' : ℕ
 
 -- Nothing was written to the output.
 pub record Unwritten (c : Call) : Type 0 where
   pub same : c.written' ≡ c.written
-  pub quiet : c.writes' ≡ c.writes
+  pub quiet : c.write_faults' ≡ c.write_faults
 
 -- What was read and written where a call stops.
 pub data Stops (c : Call) : Stop → Type 0 where
-  usage : IsUsage c.words → c.left' ≡ c.left → c.reads' ≡ c.reads → Unwritten c → Stops c stop.Usage
-  read_fault : {command : Command} → Asks c.words command → c.reads ≤ c.reads' → Rose c.reads c.reads' → Unwritten c → Stops c stop.ReadFault
-  refused : {command : Command} {input : List ℕ} {why : FileRefusal} → Asks c.words command → Taken c.left c.left' input → Refuses input command why
-      → c.reads' ≡ c.reads → Unwritten c → Stops c (stop.Refused why)
-  write_fault : {text : List ℕ} → IsOutput c.words c.left c.left' text → c.reads' ≡ c.reads
-      → AppendsPrefix c.written c.written' text → c.writes ≤ c.writes' → Rose c.writes c.writes' → Stops c stop.WriteFault
-  no_memory : (IsUsage c.words → c.left' ≡ c.left) → c.reads' ≡ c.reads → Unwritten c → Stops c stop.NoMemory
-  no_memory_to_write : {text : List ℕ} → IsOutput c.words c.left c.left' text → c.reads' ≡ c.reads
-      → AppendsPrefix c.written c.written' text → c.writes' ≡ c.writes → Stops c stop.NoMemory
+  usage : IsUsage c.words → c.left' ≡ c.left → c.read_faults' ≡ c.read_faults → Unwritten c → Stops c stop.Usage
+  read_fault : {command : Command} → Asks c.words command → c.read_faults ≤ c.read_faults' → Rose c.read_faults c.read_faults' → Unwritten c → Stops c stop.ReadFault
+  refused : {command : Command} {input : List ℕ} {why : FileRefusal} → Asks c.words command → Taken command c.left c.left' input → Refuses input command why
+      → c.read_faults' ≡ c.read_faults → Unwritten c → Stops c (stop.Refused why)
+  write_fault : {text : List ℕ} {status : ℕ} → IsOutput c.words c.left c.left' text status → c.read_faults' ≡ c.read_faults
+      → AppendsPrefix c.written c.written' text → c.write_faults ≤ c.write_faults' → Rose c.write_faults c.write_faults' → Stops c stop.WriteFault
+  no_memory : (IsUsage c.words → c.left' ≡ c.left) → c.read_faults' ≡ c.read_faults → Unwritten c → Stops c stop.NoMemory
+  no_memory_to_write : {text : List ℕ} {status : ℕ} → IsOutput c.words c.left c.left' text status → c.read_faults' ≡ c.read_faults
+      → AppendsPrefix c.written c.written' text → c.write_faults' ≡ c.write_faults → Stops c stop.NoMemory
 
 -- How a call ends.
 pub data Ends (c : Call) : ℕ → Type 0 where
-  -- with its output
-  done : {text : List ℕ} → IsOutput c.words c.left c.left' text → c.reads' ≡ c.reads → Appends c.written c.written' text → c.writes' ≡ c.writes
-      → c.noted' ≡ c.noted → c.notes' ≡ c.notes → Ends c 0
+  -- with its output, and the status that its command gives that
+  done : {text : List ℕ} {status : ℕ} → IsOutput c.words c.left c.left' text status → c.read_faults' ≡ c.read_faults → Appends c.written c.written' text → c.write_faults' ≡ c.write_faults
+      → c.noted' ≡ c.noted → c.note_faults' ≡ c.note_faults → Ends c status
   -- with the line of what stopped it
-  noted : {why : Stop} → Stops c why → Appends c.noted c.noted' (line_of why) → c.notes' ≡ c.notes → Ends c (status_of why)
+  noted : {why : Stop} → Stops c why → Appends c.noted c.noted' (line_of why) → c.note_faults' ≡ c.note_faults → Ends c (status_of why)
   -- with a prefix of that line, where the notes failed, or lacked memory
-  note_failed : {why : Stop} → Stops c why → AppendsPrefix c.noted c.noted' (line_of why) → c.notes ≤ c.notes' → Rose c.notes c.notes' → Ends c 4
-  note_lacked_memory : {why : Stop} → Stops c why → AppendsPrefix c.noted c.noted' (line_of why) → c.notes' ≡ c.notes → Ends c 5
+  note_failed : {why : Stop} → Stops c why → AppendsPrefix c.noted c.noted' (line_of why) → c.note_faults ≤ c.note_faults' → Rose c.note_faults c.note_faults' → Ends c 4
+  note_lacked_memory : {why : Stop} → Stops c why → AppendsPrefix c.noted c.noted' (line_of why) → c.note_faults' ≡ c.note_faults → Ends c 5
 
 -- A count rose where the notes were written.
-abbrev pub FailedNotes : ℕ → ℕ → ℕ → Type 0
-FailedNotes status notes notes' = (status ≡ 4) × Rose notes notes'
+abbrev pub FailedNotes : (status faults faults' : ℕ) → Type 0
+FailedNotes status faults faults' = (status ≡ 4) × Rose faults faults'
 
 -- Nothing was written to the output, or a prefix of the text that was to come.
 abbrev pub PrefixOnly : (words : List (List ℕ)) (left left' written written' : Option (List ℕ)) → Type 0
-PrefixOnly words left left' written written' = (written' ≡ written) ⊎ ((text : List ℕ) × IsOutput words left left' text × AppendsPrefix written written' text)
+PrefixOnly words left left' written written' = (written' ≡ written) ⊎ ((text : List ℕ) × (status : ℕ) × IsOutput words left left' text status × AppendsPrefix written written' text)
 
--- A line of the notes.
+-- What stops a call is a refusal of the input, or none.
+abbrev pub HasLine : Stop → Type 0
+HasLine (stop.Refused why) = IsCause why
+HasLine stop.Usage = Unit {0}
+HasLine stop.ReadFault = Unit {0}
+HasLine stop.WriteFault = Unit {0}
+HasLine stop.NoMemory = Unit {0}
+
+-- A line of the notes: that of a refusal of the input, or of another stop.
 abbrev pub IsLine : List ℕ → Type 0
-IsLine line = (why : Stop) × (line ≡ line_of why)
+IsLine line = (why : Stop) × HasLine why × (line ≡ line_of why)
 
 -- a status that comes before anything is written
 abbrev pub IsNoted : ℕ → Type 0
@@ -188,7 +189,7 @@ IsCut status = (status ≡ 4) ⊎ (status ≡ 5)
 pub record Compiled (left left' written written' : Option (List ℕ)) : Type 0 where
   pub input : List ℕ
   pub text : List ℕ
-  pub taken : Taken left left' input
+  pub taken : Taken C left left' input
   pub compiled : CompilesTo input text
   pub appended : Appends written written' text
 
@@ -196,7 +197,7 @@ pub record Compiled (left left' written written' : Option (List ℕ)) : Type 0 w
 pub record Accepted (left left' written written' : Option (List ℕ)) : Type 0 where
   pub input : List ℕ
   pub file : SourceFile
-  pub taken : Taken left left' input
+  pub taken : Taken Check left left' input
   pub accepted : Accepts input file
   pub sound : EachRunsWell file
   pub appended : Appends written written' accepted_line
@@ -207,7 +208,7 @@ pub record Refused (words : List (List ℕ)) (left left' noted noted' : Option (
   pub input : List ℕ
   pub why : FileRefusal
   pub asked : Asks words command
-  pub taken : Taken left left' input
+  pub taken : Taken command left left' input
   pub refused : Refuses input command why
   pub none : AcceptsNone input
   pub line : Appends noted noted' (line_of (stop.Refused why))

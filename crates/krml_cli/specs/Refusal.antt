@@ -1,14 +1,13 @@
 -- Which inputs are accepted, why an input is refused, and the words for it.
 use Rattle.std.specs.Prelude.{ℕ, List, ◌++◌, codes, Err}
 use Rattle.std.specs.Fmt.{decimal}
-use Rattle.krml_syntax.specs.declared.limit.LimitKind.{LimitKind}
-use Rattle.krml_syntax.specs.declared.limit.LimitKind.TheVariants as k
 use Rattle.krml_syntax.specs.declared.tree.SourceFile.{SourceFile}
 use Rattle.krml_syntax.specs.File.{SpellsFile}
 use Rattle.krml_ast.specs.WellTyped.{AreWellTyped}
 use Rattle.krml_reader.specs.declared.refusal.ReadRefusal.{ReadRefusal}
 use Rattle.krml_reader.specs.declared.refusal.ReadRefusal.TheVariants as r
 use Rattle.krml_reader.specs.Read.{Reads}
+use Rattle.krml_reader.specs.Refusal.{kind_word}
 use Rattle.krml_types.specs.declared.refusal.TypeRefusal.{TypeRefusal}
 use Rattle.krml_types.specs.declared.refusal.TypeRefusal.TheVariants as y
 use Rattle.krml_types.specs.Check.{IsFirstFault}
@@ -40,26 +39,28 @@ abbrev pub of_type : TypeRefusal → FileRefusal
 of_type (y.Fault def) = IllTyped def
 of_type y.NoMemory = NoMemory
 
-abbrev pub kind_word : LimitKind → List ℕ
-kind_word k.Definitions = codes "definitions"
-kind_word k.Name = codes "name"
-kind_word k.Forms = codes "forms"
-kind_word k.Variables = codes "variables"
-kind_word k.Parameters = codes "parameters"
-kind_word k.Fields = codes "fields"
-kind_word k.Constructors = codes "constructors"
-kind_word k.Elements = codes "elements"
+-- A refusal of the input. Want of memory is none.
+abbrev pub IsCause : FileRefusal → Type 0
+IsCause (Read r.TooLarge) = Unit {0}
+IsCause (Read (r.Syntax at)) = Unit {0}
+IsCause (Read (r.Nesting at)) = Unit {0}
+IsCause (Read (r.Shape form)) = Unit {0}
+IsCause (Read (r.Limit which count)) = Unit {0}
+IsCause (Read r.NoMemory) = ⊥
+IsCause (IllTyped def) = Unit {0}
+IsCause (NotBuilt def) = Unit {0}
+IsCause NoMemory = ⊥
 
-abbrev pub read_words : ReadRefusal → List ℕ
-read_words r.TooLarge = codes "too large"
-read_words (r.Syntax at) = codes "syntax at " ++ decimal at
-read_words (r.Nesting at) = codes "nesting at " ++ decimal at
-read_words (r.Shape form) = codes "shape of form " ++ decimal form
-read_words (r.Limit which count) = codes "limit " ++ kind_word which ++ codes " " ++ decimal count
-read_words r.NoMemory = codes "out of memory"
+abbrev pub read_refusal_words : ReadRefusal → List ℕ
+read_refusal_words r.TooLarge = codes "too large"
+read_refusal_words (r.Syntax at) = codes "syntax at " ++ decimal at
+read_refusal_words (r.Nesting at) = codes "nesting at " ++ decimal at
+read_refusal_words (r.Shape form) = codes "shape of form " ++ decimal form
+read_refusal_words (r.Limit which count) = codes "limit " ++ kind_word which ++ codes " " ++ decimal count
+read_refusal_words r.NoMemory = codes "out of memory"
 
 abbrev pub refusal_words : FileRefusal → List ℕ
-refusal_words (Read why) = read_words why
+refusal_words (Read why) = read_refusal_words why
 refusal_words (IllTyped def) = codes "type fault in definition " ++ decimal def
 refusal_words (NotBuilt def) = codes "not built " ++ decimal def
 refusal_words NoMemory = codes "out of memory"

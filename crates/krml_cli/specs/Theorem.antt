@@ -1,4 +1,4 @@
--- What it means that a program of C does what a file of the source does.
+-- What it means that a text is the C text of a file, and that a program of C does what a file of the source does.
 use Rattle.std.specs.Prelude.{◌≡◌, ℕ, List, map}
 use Rattle.krml_trace.specs.declared.arguments.Arguments.{Arguments}
 use Rattle.krml_trace.specs.declared.bound.Bound.{Bound}
@@ -12,25 +12,40 @@ use Rattle.krml_ctree.specs.declared.event.CEvent.{CEvent}
 use Rattle.krml_ctree.specs.declared.run.CRun.{CRun}
 use Rattle.krml_ctree.specs.declared.tree.CProgram.{CProgram}
 use Rattle.krml_ctree.specs.Meaning.{c_run}
+use Rattle.krml_ctree.specs.Spelling.{SpelledAlone}
+use Rattle.krml_ctree.specs.Text.{text_of}
+use Rattle.krml_ctree.specs.WellFormed.{WellFormed}
 use Rattle.krml_bundle.specs.Emitted.{emitted_fun}
-use Rattle.krml_bundle.specs.Bundled.{bundled, event_bundled}
-use Rattle.krml_cstar.specs.Image as bundle
+use Rattle.krml_bundle.specs.Bundled.{bundled, names_of, event_bundled, NamesEntries}
+use Rattle.krml_cstar.specs.Image.{image_c}
+use Rattle.krml_cstar.specs.Translation.{program_of}
 
 -- The events of C that stand for those of a run of a file: they have the names that C has for the file's.
-abbrev pub image_c : SourceFile → List SourceEvent → List CEvent
-image_c file es = bundle.image_c (bundled file).defs (map event_bundled es)
+abbrev pub events_in_c : SourceFile → List SourceEvent → List CEvent
+events_in_c file es = image_c (bundled file).defs (map event_bundled es)
 
 -- A run of C does what a run of a file does: the outcomes are the same, and the events are the image of the source's.
-pub record DoesTheSame (file : SourceFile) (source : SourceRun) (c : CRun) : Type 0 where
+pub record RunsAlike (file : SourceFile) (source : SourceRun) (c : CRun) : Type 0 where
   pub outcome : c.outcome ≡ source.outcome
-  pub events : c.events ≡ image_c file source.events
+  pub events : c.events ≡ events_in_c file source.events
 
 -- A program does what a file does: for each entry of the file, all arguments that fit it and each bound, where the run of
 -- the source is not stuck, the function that the entry became does the same on these arguments under this bound.
 abbrev pub IsImplementedBy : SourceFile → CProgram → Type 0
 IsImplementedBy file program = (entry : List ℕ) (args : Arguments) (bound : Bound) → ArgumentsFit file entry args
     → NotStuck (source_run file entry args bound).outcome
-    → DoesTheSame file (source_run file entry args bound) (c_run program (emitted_fun entry) args bound)
+    → RunsAlike file (source_run file entry args bound) (c_run program (emitted_fun entry) args bound)
+
+-- A text is the C text of a file: that of the program of the file under the names that C has. The program is well formed, the
+-- text spells it alone, and it does what the file does. What `name_of` gives for an entry is the name of the function that is run.
+pub record IsCompiled (file : SourceFile) (text : List ℕ) : Type 0 where
+  pub program : CProgram
+  pub translated : program ≡ program_of (bundled file)
+  pub is : text ≡ text_of program
+  pub well_formed : WellFormed program
+  pub alone : SpelledAlone text program
+  pub named : NamesEntries file (names_of file)
+  pub implemented : IsImplementedBy file program
 
 -- Each run of an entry on arguments that fit it ends as one of its function: it is done, with a result exactly where the
 -- function has one, or it wants for ticks or levels, or is stuck.

@@ -42,7 +42,11 @@ fn is_expr_built(expr: &Expr) -> bool
         }
         Expr::While(a, b) => is_expr_built(a.get()) && is_expr_built(b.get()),
         Expr::Do(items, a) => are_items_built(items.as_slice()) && is_expr_built(a.get()),
-        _ => false,
+        Expr::Hide(..) => false,
+        Expr::Read(..) | Expr::Write(..) | Expr::Slice(..) => false,
+        Expr::Frame(..) | Expr::Alloc(..) | Expr::Fill(..) => false,
+        Expr::Con(..) | Expr::Match(..) | Expr::Cases(_) => false,
+        Expr::TagIs(..) | Expr::Part(..) => false,
     }
 }
 

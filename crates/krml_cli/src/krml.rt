@@ -13,33 +13,42 @@ ghost use Rattle.krml_cli.specs.Refusal.{Accepts, Refuses};
 ghost use Rattle.krml_cli.specs.Steps.{Answers, Runs, Notes, Reports};
 
 use crate::accept::accept;
-use crate::compile::compile;
 use crate::input::read_input;
-use crate::output::write_all;
+use crate::output::{Output, write_all};
+use crate::pipeline::compile;
 use crate::refusal::{FileRefusal, refusal_line};
 use crate::stop::Stop;
 use krml_command::{Command, read_words};
+use krml_meaning::checked_files_run;
 use krml_reader::one_answer;
 use krml_trace::{Sink, SinkFault, Source};
 use std::alloc::{AllocError, Global};
 
-/// What a command writes of a source text.
-fn answer(alloc: Global, command: Command, text: &[u8]) -> Result<Vec<u8>, FileRefusal>
+/// What a command makes of a source text.
+fn answer(alloc: Global, command: Command, text: &[u8]) -> Result<Output, FileRefusal>
     ensures { Answers command text.now result }
 {
+    // The law that runs of such a file end as they should. The call does nothing when it runs.
+    checked_files_run();
     let typed = accept(alloc, text)?;
     match command {
-        Command::C => Ok(compile(alloc, typed.into_file())?),
-        Command::Check => Ok(Vec::from_slice(alloc, b"accepted\n")?),
+        Command::C => Ok(Output {
+            text: compile(alloc, typed)?,
+            status: 0,
+        }),
+        Command::Check => Ok(Output {
+            text: Vec::from_slice(alloc, b"accepted\n")?,
+            status: 0,
+        }),
     }
 }
 
 /// What the command that the words ask for is to write.
-fn run<S: Source>(alloc: Global, words: &[String], source: &mut S) -> Result<Vec<u8>, Stop>
+fn run<S: Source>(alloc: Global, words: &[String], source: &mut S) -> Result<Output, Stop>
     ensures { Runs (map string_bytes words.now) (S.left source.old) (S.left source.new) (S.faults source.old) (S.faults source.new) result }
 {
     let command = read_words(alloc, words)?.command;
-    let text = read_input(alloc, source)?;
+    let text = read_input(alloc, command, source)?;
     Ok(answer(alloc, command, text.as_slice())?)
 }
 
@@ -81,21 +90,21 @@ fn command<S: Source, K: Sink, E: Sink>(
       words = map string_bytes words.now;
       left = S.left source.old;
       left' = S.left source.new;
-      reads = S.faults source.old;
-      reads' = S.faults source.new;
+      read_faults = S.faults source.old;
+      read_faults' = S.faults source.new;
       written = K.written out.old;
       written' = K.written out.new;
-      writes = K.faults out.old;
-      writes' = K.faults out.new;
+      write_faults = K.faults out.old;
+      write_faults' = K.faults out.new;
       noted = E.written notes.old;
       noted' = E.written notes.new;
-      notes = E.faults notes.old;
-      notes' = E.faults notes.new;
+      note_faults = E.faults notes.old;
+      note_faults' = E.faults notes.new;
     }) result }
 {
     match run(alloc, words, source) {
-        Ok(text) => match write_all(out, text.as_slice()) {
-            Ok(()) => 0,
+        Ok(output) => match write_all(out, output.text.as_slice()) {
+            Ok(()) => output.status,
             Err(SinkFault::Failed) => report(alloc, notes, &Stop::WriteFault),
             Err(SinkFault::NoMemory) => report(alloc, notes, &Stop::NoMemory),
         },

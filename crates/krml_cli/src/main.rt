@@ -3,7 +3,6 @@
 
 mod accept;
 mod built;
-mod compile;
 mod input;
 mod krml;
 mod output;

@@ -1,10 +1,9 @@
 ghost use Rattle.std.specs.Prelude.{◌≡◌, IfOk};
 ghost use Rattle.std.specs.String.{string_bytes};
 ghost use Rattle.krml_cli.specs.Accept.{IsNotBuiltAt};
-ghost use Rattle.krml_cli.specs.Refusal.{kind_word, read_words, refusal_words, refusal_line};
+ghost use Rattle.krml_cli.specs.Refusal.{read_refusal_words, refusal_words, refusal_line};
 
-use krml_ast::LimitKind;
-use krml_reader::ReadRefusal;
+use krml_reader::{ReadRefusal, kind_word};
 use krml_trace::NoMemory;
 use krml_types::TypeRefusal;
 use std::alloc::Global;
@@ -17,10 +16,10 @@ pub enum FileRefusal {
     #[error(transparent)]
     Read(ReadRefusal),
     /// The first definition that is not well typed, by its place from 0.
-    #[error("definition {def} is not well typed")]
+    #[error("type fault in definition {def}")]
     Type { def: u32 },
     /// The first definition outside the part of the language that is built, by its place from 0.
-    #[error("definition {def} is not built")]
+    #[error("not built {def}")]
     NotBuilt { def: u32 },
     #[error("out of memory")]
     NoMemory,
@@ -78,23 +77,8 @@ impl From<NoMemory> for FileRefusal {
     }
 }
 
-fn kind_word(which: LimitKind) -> &'static str
-    ensures { result.now ≡ kind_word which }
-{
-    match which {
-        LimitKind::Definitions => "definitions",
-        LimitKind::Name => "name",
-        LimitKind::Forms => "forms",
-        LimitKind::Variables => "variables",
-        LimitKind::Parameters => "parameters",
-        LimitKind::Fields => "fields",
-        LimitKind::Constructors => "constructors",
-        LimitKind::Elements => "elements",
-    }
-}
-
-fn read_words(alloc: Global, why: &ReadRefusal) -> Result<String, NoMemory>
-    ensures { IfOk result (λ words. string_bytes words ≡ read_words why.now) }
+fn read_refusal_words(alloc: Global, why: &ReadRefusal) -> Result<String, NoMemory>
+    ensures { IfOk result (λ words. string_bytes words ≡ read_refusal_words why.now) }
 {
     match why {
         ReadRefusal::TooLarge => String::from_str(alloc, "too large"),
@@ -113,7 +97,7 @@ fn refusal_words(alloc: Global, why: &FileRefusal) -> Result<String, NoMemory>
     ensures { IfOk result (λ words. string_bytes words ≡ refusal_words why.now) }
 {
     match why {
-        FileRefusal::Read(why) => read_words(alloc, why),
+        FileRefusal::Read(why) => read_refusal_words(alloc, why),
         FileRefusal::Type { def } => format!(in alloc; "type fault in definition {def}"),
         FileRefusal::NotBuilt { def } => format!(in alloc; "not built {def}"),
         FileRefusal::NoMemory => String::from_str(alloc, "out of memory"),

@@ -5,5 +5,6 @@ pub mod Expression
 pub mod Keyword
 pub mod Pattern
 pub mod Read
+pub mod Refusal
 pub mod Types
 pub mod Words

@@ -15,5 +15,5 @@ mod written;
 
 pub use krml_writer::write_file;
 pub use read::{one_answer, one_definition, one_file, read_file};
-pub use refusal::ReadRefusal;
+pub use refusal::{ReadRefusal, kind_word};
 pub use written::written_is_read;

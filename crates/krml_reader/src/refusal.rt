@@ -1,5 +1,8 @@
 //! Why a text is refused.
 
+ghost use Rattle.std.specs.Prelude.{◌≡◌};
+ghost use Rattle.krml_reader.specs.Refusal.{kind_word};
+
 use krml_syntax::LimitKind;
 use krml_trace::NoMemory;
 use thiserror::Error;
@@ -8,19 +11,19 @@ use thiserror::Error;
 #[derive(Debug, Drop, Error)]
 pub enum ReadRefusal {
     /// The text has more than 1,048,576 bytes.
-    #[error("the text is too large")]
+    #[error("too large")]
     TooLarge,
     /// The byte of the first fault of syntax, counted from 0.
-    #[error("syntax fault at byte {at}")]
+    #[error("syntax at {at}")]
     Syntax { at: u64 },
     /// The byte of the first `(` of a 65th level, counted from 0.
-    #[error("nesting too deep at byte {at}")]
+    #[error("nesting at {at}")]
     Nesting { at: u64 },
     /// The first form of the text that spells no definition, counted from 0.
-    #[error("form {form} spells no definition")]
+    #[error("shape of form {form}")]
     Shape { form: u32 },
     /// The first kind of limit that is exceeded, and the count at the first place where it is.
-    #[error("a count of {count} is past its limit")]
+    #[error("limit {} {count}", kind_word(*.which))]
     Limit { which: LimitKind, count: u64 },
     #[error("out of memory")]
     NoMemory,
@@ -34,5 +37,21 @@ impl From<NoMemory> for ReadRefusal {
 
     fn from(_error: NoMemory) -> ReadRefusal {
         ReadRefusal::NoMemory
+    }
+}
+
+/// The word for what a limit bounds.
+pub fn kind_word(which: LimitKind) -> &'static str
+    ensures { result.now ≡ kind_word which }
+{
+    match which {
+        LimitKind::Definitions => "definitions",
+        LimitKind::Name => "name",
+        LimitKind::Forms => "forms",
+        LimitKind::Variables => "variables",
+        LimitKind::Parameters => "parameters",
+        LimitKind::Fields => "fields",
+        LimitKind::Constructors => "constructors",
+        LimitKind::Elements => "elements",
     }
 }

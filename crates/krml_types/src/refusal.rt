@@ -7,7 +7,7 @@ use thiserror::Error;
 #[derive(Debug, Drop, Error)]
 pub enum TypeRefusal {
     /// The first definition that is not well typed, by its place from 0.
-    #[error("definition {def} is not well typed")]
+    #[error("type fault in definition {def}")]
     Fault { def: u32 },
     #[error("out of memory")]
     NoMemory,

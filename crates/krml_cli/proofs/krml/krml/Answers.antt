@@ -1,4 +1,4 @@
-use Rattle.krml_cli.proofs.Clauses.{compiled, accepted, refused, prefix, silent, noted, note_prefix, write_noted, usage, usage_always, unread, completes, refuses, refuses_for}
+use Rattle.krml_cli.proofs.Clauses.{known, compiled, accepted, refused, prefix, silent, noted, unnoted, note_prefix, write_noted, read_fault, read_faults, write_fault, write_faults, usage, usage_always, unread, completes, refuses, refuses_for}
 use Rattle.krml_cli.proofs.krml.krml.Goals as goal
 
 pub returns-clause-compiled : goal.returns-clause-compiled
@@ -42,3 +42,21 @@ returns-clause-write_noted g c = write_noted _ c.command.result c.command.ensure
 
 pub returns-clause-refuses_for : goal.returns-clause-refuses_for
 returns-clause-refuses_for g c = refuses_for c.one_answer.ensures _ c.command.result c.command.ensures
+
+pub returns-clause-known : goal.returns-clause-known
+returns-clause-known g c = known _ c.command.result c.command.ensures
+
+pub returns-clause-unnoted : goal.returns-clause-unnoted
+returns-clause-unnoted g c = unnoted _ c.command.result c.command.ensures
+
+pub returns-clause-read_fault : goal.returns-clause-read_fault
+returns-clause-read_fault g c = read_fault _ c.command.result c.command.ensures
+
+pub returns-clause-read_faults : goal.returns-clause-read_faults
+returns-clause-read_faults g c = read_faults _ c.command.result c.command.ensures
+
+pub returns-clause-write_fault : goal.returns-clause-write_fault
+returns-clause-write_fault g c = write_fault _ c.command.result c.command.ensures
+
+pub returns-clause-write_faults : goal.returns-clause-write_faults
+returns-clause-write_faults g c = write_faults _ c.command.result c.command.ensures
