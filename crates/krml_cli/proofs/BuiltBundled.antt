@@ -1,6 +1,8 @@
 -- Definitions that are built are built under the names of C.
-use Rattle.std.proofs.Common.{◌≡◌, ◌==◌, Bool, List, [], ◌∷◌, map, refl, sym, ap, ◌∙◌, subst}
-use Rattle.krml_syntax.specs.declared.tree.Ty.{Ty, out-Ty, roll-Ty, map-Ty}
+use Rattle.std.proofs.Common.{◌≡◌, ℕ, ◌==◌, Bool, List, [], ◌∷◌, map, refl, sym, ap, ◌∙◌, subst}
+use Rattle.std.proofs.lemmas.List.{length-map}
+use Rattle.krml_syntax.specs.declared.tree.IntTy.{IntTy}
+use Rattle.krml_syntax.specs.declared.tree.Ty.{Ty, out-Ty, roll-Ty, map-Ty, roll-out-Ty}
 use Rattle.krml_syntax.specs.declared.tree.Ty.TheVariants as t
 use Rattle.krml_syntax.specs.declared.tree.Ty.TheOpen.{Ty-F}
 use Rattle.krml_syntax.specs.declared.tree.Ty.TheFolds.{fold-roll-Ty}
@@ -15,8 +17,6 @@ use Rattle.krml_syntax.specs.declared.tree.Expr.TheOpen.{Expr-F, Item-F}
 use Rattle.krml_syntax.specs.declared.tree.Expr.TheFolds.{fold-Arm, fold-Case, fold_out-Expr, fold_out-Item, fold-roll-Expr, fold-roll-Item, ind-Expr, map-Item}
 use Rattle.krml_syntax.specs.declared.tree.Def.{Def}
 use Rattle.krml_syntax.specs.declared.tree.Def.TheVariants as d
-use Rattle.krml_meaning.proofs.Flat.{by_form}
-use Rattle.krml_meaning.proofs.Lists.{map_length}
 use Rattle.krml_bundle.specs.Emitted.{emitted_type}
 use Rattle.krml_bundle.specs.Bundled.{ty_bundled, level_ty, field_bundled, param_bundled, level_expr, level_item, level_arm, level_case, expr_bundled, item_bundled, arm_bundled, case_bundled, def_bundled}
 use Rattle.krml_cstar.specs.Built.{all, is_empty, level_ty_built, is_ty_built, are_fields_built, level_built, level_item_built, level_arm_built, level_case_built, is_expr_built, is_item_built, is_built, AreBuilt}
@@ -24,7 +24,7 @@ use Rattle.krml_cstar.specs.Built.{all, is_empty, level_ty_built, is_ty_built, a
 -- ---- types
 
 no_more : {A B : Type 0} (f : A → B) (xs : List A) → is_empty (map f xs) ≡ is_empty xs
-no_more f xs = ap (λ n. n == 0) (map_length f xs)
+no_more f xs = ap (λ n. n == 0) (length-map xs f)
 
 -- of one layer
 layer : (y : Ty-F Ty) → ty_bundled (roll-Ty y) ≡ level_ty (map-Ty Ty Ty ty_bundled y)
@@ -32,6 +32,19 @@ layer y = fold-roll-Ty Ty level_ty y
 
 same_layer : (a b : Ty) (y z : Ty-F Ty) → ty_bundled a ≡ b → out-Ty a ≡ y → out-Ty b ≡ z → level_ty_built z ≡ level_ty_built y → is_ty_built (ty_bundled a) ≡ is_ty_built a
 same_layer a b y z e p q h = ap is_ty_built e ∙ ap level_ty_built q ∙ h ∙ sym (ap level_ty_built p)
+
+-- a type is of one of these forms
+by_form : (P : Ty → Type 0) → P t.Bool → P t.Unit → ((i : IntTy) → P (t.Int i)) → ((a : Ty) → P (t.Buf a)) → ((x : List ℕ) → P (t.Var x))
+    → ((x : List ℕ) (args : List Ty) → P (t.Named x args)) → (a : Ty) → P a
+by_form P b u i f v n a = subst P (roll-out-Ty a) (go (out-Ty a))
+  where
+    go : (o : Ty-F Ty) → P (roll-Ty o)
+    go Ty-F.Bool = subst P (sym t.rolls-Bool) b
+    go Ty-F.Unit = subst P (sym t.rolls-Unit) u
+    go (Ty-F.Int j) = subst P (sym (t.rolls-Int j)) (i j)
+    go (Ty-F.Buf a) = subst P (sym (t.rolls-Buf a)) (f a)
+    go (Ty-F.Var x) = subst P (sym (t.rolls-Var x)) (v x)
+    go (Ty-F.Named x args) = subst P (sym (t.rolls-Named x args)) (n x args)
 
 ty_same : (a : Ty) → is_ty_built (ty_bundled a) ≡ is_ty_built a
 ty_same = by_form (λ a. is_ty_built (ty_bundled a) ≡ is_ty_built a)

@@ -221,6 +221,14 @@ fn text_of(alloc: Global, pieces: &[(&[u8], usize)]) -> Result<Vec<u8>, AllocErr
     Ok(text)
 }
 
+/// A text of 1,048,576 bytes is accepted.
+#[test]
+fn largest_text(rt: HostRuntime) -> Result<(), Fail> {
+    let input = text_of(rt.alloc(), &[(b";", 1), (b"x", 1_048_575)])?;
+    assert!(rt; gives(rt.alloc(), &["check"], input.as_slice(), ACCEPTED)?);
+    Ok(())
+}
+
 /// Whether both commands refuse an input for this, and write nothing else.
 fn is_refused(alloc: Global, input: &[u8], words: &[u8]) -> Result<bool, AllocError> {
     let line = text_of(alloc, &[(b"krml: refused: ", 1), (words, 1), (b"\n", 1)])?;
