@@ -18,13 +18,10 @@ DoesTheSame file p = (entry : List ℕ) (args : Arguments) (bound : Bound) → A
     → ((c_run p entry args bound).outcome ≡ (source_run file entry args bound).outcome)
     × ((c_run p entry args bound).events ≡ image_c file.defs (source_run file entry args bound).events)
 
--- A file has the form of each file between passes before it is bundled.
-pub record HasEachForm (file : SourceFile) : Type 0 where
-  pub checked : IsChecked file
-  pub mono : IsMono file
-  pub plain : IsPlain file
-  pub hoisted : IsHoisted file
-
--- So has each typed file whose definitions are built: no pass before the last has anything to do.
-abbrev pub BuiltFilesHaveForms : Type 0
-BuiltFilesHaveForms = (file : SourceFile) → IsTypedFile file → AreBuilt file.defs → HasEachForm file
+-- A file whose definitions are built has the form that each pass before the last gives, once it has the form before: that pass
+-- has nothing to do.
+pub record BuiltFilesKeepForms : Type 0 where
+  pub checked : (file : SourceFile) → IsTypedFile file → IsChecked file
+  pub mono : (file : SourceFile) → IsChecked file → AreBuilt file.defs → IsMono file
+  pub plain : (file : SourceFile) → IsMono file → AreBuilt file.defs → IsPlain file
+  pub hoisted : (file : SourceFile) → IsPlain file → AreBuilt file.defs → IsHoisted file

@@ -1,6 +1,6 @@
-ghost use Rattle.krml_cstar.specs.Theorem.{BuiltFilesHaveForms};
+ghost use Rattle.krml_cstar.specs.Theorem.{BuiltFilesKeepForms};
 
-/// A typed file whose definitions are built has the form of each file between passes as it is.
+/// A file whose definitions are built has the form of each file between passes before it is bundled, each by the one before.
 pub fn built_files()
-    ensures { BuiltFilesHaveForms }
+    ensures { BuiltFilesKeepForms }
 {}

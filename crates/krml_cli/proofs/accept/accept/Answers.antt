@@ -3,9 +3,6 @@ use Rattle.krml_syntax.specs.declared.tree.SourceFile.{SourceFile}
 use Rattle.krml_cli.proofs.Ended.{unread_by, ill_typed_by, unbuilt_by, accepted_by}
 use Rattle.krml_cli.proofs.accept.accept.Goals as goal
 
-pub check_types-requires-clause-spelled : goal.check_types-requires-clause-spelled
-check_types-requires-clause-spelled c = ∣ record { text = c.args.text.now; spells = c.in_ok-file.ensures.found } ∣₁
-
 pub returns-in_err-file : goal.returns-in_err-file
 returns-in_err-file c = unread_by c.args.text.now c.in_err-file.field-0.0 c.from_residual.result c.from_residual.ensures.0 c.from_residual.ensures.1 c.in_err-file.ensures.refused
 

@@ -2,8 +2,8 @@ use Rattle.std.proofs.Common.{refl}
 use Rattle.krml_cli.proofs.Ended.{compiles_by, is_accepted}
 use Rattle.krml_cli.proofs.krml.answer.Goals as goal
 
-pub compile-requires-clause-built : goal.compile-requires-clause-built
-compile-requires-clause-built c = c.in_ok-typed.ensures.built
+pub compile-requires : goal.compile-requires
+compile-requires c = record { built = c.in_ok-typed.ensures.built }
 
 pub returns-in_ok-compile-in-C : goal.returns-in_ok-compile-in-C
 returns-in_ok-compile-in-C c =

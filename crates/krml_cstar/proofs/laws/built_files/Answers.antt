@@ -2,9 +2,4 @@ use Rattle.krml_cstar.proofs.BuiltFiles.{is_checked, is_mono, is_plain, is_hoist
 use Rattle.krml_cstar.proofs.laws.built_files.Goals as goal
 
 pub returns : goal.returns
-returns c =
-    λ file typed built.
-      let checked = is_checked file typed in
-      let mono = is_mono file checked built in
-      let plain = is_plain file mono built in
-      record { checked = checked; mono = mono; plain = plain; hoisted = is_hoisted file plain built }
+returns c = record { checked = is_checked; mono = is_mono; plain = is_plain; hoisted = is_hoisted }
