@@ -13,7 +13,6 @@ mod Examples
 pub mod Fits
 pub mod Forms
 pub mod Found
-pub mod Hoisted
 pub mod Images
 pub mod Levels
 pub mod LocalsInC
