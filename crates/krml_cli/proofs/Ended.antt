@@ -26,7 +26,7 @@ use Rattle.krml_cli.specs.Refusal.{Accepts, Refuses, of_read, of_type}
 use Rattle.krml_cli.specs.Steps.{Runs, Notes, Reports}
 use Rattle.krml_cli.specs.Theorem.{IsCompiled, EachRunsWell}
 use Rattle.krml_cli.proofs.Refusals.{asks_is_no_usage}
-use Rattle.krml_cli.proofs.Unbuilt.{all_built}
+use Rattle.krml_cli.proofs.built.Unbuilt.{all_built}
 
 -- ---- accepting an input
 

@@ -1,7 +1,5 @@
-mod BuiltBundled
 mod Clauses
 mod Compiled
 mod Ended
 mod Known
 mod Refusals
-mod Unbuilt

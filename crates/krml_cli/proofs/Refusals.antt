@@ -16,7 +16,7 @@ use Rattle.krml_cli.specs.declared.refusal.FileRefusal.{FileRefusal}
 use Rattle.krml_cli.specs.declared.refusal.FileRefusal.TheVariants.{Read, «Type» as IllTyped, NotBuilt}
 use Rattle.krml_cli.specs.Ends.{Asks, IsUsage, AcceptsNone, Makes, max_text}
 use Rattle.krml_cli.specs.Refusal.{Accepts, Refuses, IsCause}
-use Rattle.krml_cli.proofs.Unbuilt.{none_unbuilt}
+use Rattle.krml_cli.proofs.built.Unbuilt.{none_unbuilt}
 
 -- ---- what words ask for
 

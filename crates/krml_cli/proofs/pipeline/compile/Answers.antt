@@ -4,7 +4,7 @@ use Rattle.krml_syntax.specs.declared.tree.SourceFile.{SourceFile}
 use Rattle.krml_ast.specs.FileTypes.{IsTypedFile, IsChecked, IsMono, IsPlain, IsHoisted}
 use Rattle.krml_bundle.specs.Bundled.{bundled}
 use Rattle.krml_cstar.specs.Built.{AreBuilt}
-use Rattle.krml_cli.proofs.BuiltBundled.{built_bundled}
+use Rattle.krml_cli.proofs.built.Bundled.{built_bundled}
 use Rattle.krml_cli.proofs.Compiled.{compiled_by}
 use Rattle.krml_cli.proofs.pipeline.compile.Goals as goal
 
