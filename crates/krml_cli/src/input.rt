@@ -23,7 +23,11 @@ fn limit_of(command: Command) -> usize
 }
 
 /// Reads to the end of a command's input, or to one byte past its limit.
-pub fn read_input<S: Source>(alloc: Global, command: Command, source: &mut S) -> Result<Vec<u8>, Stop>
+pub fn read_input<S: Source>(
+    alloc: Global,
+    command: Command,
+    source: &mut S,
+) -> Result<Vec<u8>, Stop>
     ensures { TakesInput command (S.left source.old) (S.left source.new) (S.faults source.old) (S.faults source.new) result }
 {
     let limit = limit_of(command);

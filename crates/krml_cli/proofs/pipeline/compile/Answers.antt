@@ -48,6 +48,6 @@ returns c =
     let file = c.args.typed in
     let built : AreBuilt file.defs = c.requires.built in
     λ typed.
-      let form = c.in_ok-bundled.ensures.form (subst IsHoisted (sym same) (law.hoisted file (law.plain file (law.mono file (law.checked file typed) built) built) built)) in
-      compiled_by file c.of-hoisted.result c.in_ok-bundled.bundled c.in_ok-program.program c.in_ok-text.text.items same c.in_ok-bundled.ensures.value c.in_ok-bundled.ensures.names c.in_ok-bundled.ensures.fits
-      c.in_ok-bundled.ensures.runs c.in_ok-program.ensures.value (c.in_ok-program.ensures.well_formed form) (c.in_ok-program.ensures.runs form) c.in_ok-text.ensures.text c.in_ok-text.ensures.alone
+    let form = c.in_ok-bundled.ensures.form (subst IsHoisted (sym same) (law.hoisted file (law.plain file (law.mono file (law.checked file typed) built) built) built)) in
+    compiled_by file c.of-hoisted.result c.in_ok-bundled.bundled c.in_ok-program.program c.in_ok-text.text.items same c.in_ok-bundled.ensures.value c.in_ok-bundled.ensures.names c.in_ok-bundled.ensures.fits
+    c.in_ok-bundled.ensures.runs c.in_ok-program.ensures.value (c.in_ok-program.ensures.well_formed form) (c.in_ok-program.ensures.runs form) c.in_ok-text.ensures.text c.in_ok-text.ensures.alone
