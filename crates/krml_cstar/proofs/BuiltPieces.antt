@@ -73,7 +73,7 @@ ty_in = built_form IsIn
     (closed_in t.Unit Ty-F.Unit t.outs-Unit (ap (para-Ty (List Piece) inside_level_ty) (sym t.rolls-Unit) ∙ para-roll-Ty (List Piece) inside_level_ty Ty-F.Unit) tt)
     (λ i h. int_in i)
     (λ x. closed_in (t.Named x []) (Ty-F.Named x []) (t.outs-Named x [])
-        (ap (para-Ty (List Piece) inside_level_ty) (sym (t.rolls-Named x [])) ∙ para-roll-Ty (List Piece) inside_level_ty (Ty-F.Named x [])) refl)
+    (ap (para-Ty (List Piece) inside_level_ty) (sym (t.rolls-Named x [])) ∙ para-roll-Ty (List Piece) inside_level_ty (Ty-F.Named x [])) refl)
 
 types_in : (types : List Ty) → AllByRecursion IsIn types → AllIn (flat_map pieces_of_ty types)
 types_in [] h = tt

@@ -84,10 +84,10 @@ module _ (defs : List Def) (vars : List (List ℕ)) where
     pub extends : Extends p.memory q.memory
     pub memory : MemoryTyped defs q.memory
 
-  closed_bool : at vars [] t.Bool ≡ t.Bool
+  pub closed_bool : at vars [] t.Bool ≡ t.Bool
   closed_bool = ap erased (at_bool vars []) ∙ erased_bool
 
-  closed_int : (i : IntTy) → at vars [] (t.Int i) ≡ int_ty i
+  pub closed_int : (i : IntTy) → at vars [] (t.Int i) ≡ int_ty i
   closed_int i = ap erased (at_int vars [] i) ∙ erased_int i
 
   closed_buf : (i : IntTy) → at vars [] (t.Buf (t.Int i)) ≡ t.Buf (int_ty i)
@@ -346,9 +346,10 @@ some_there None h = absurd (cc)
 -- ---- runs
 
 module _ (file : SourceFile) (typed : AreWellTyped file.defs) (can : EachForm (CanRun file.defs) file.defs) where
-  started_run : (entry : List ℕ) (args : Arguments) (bound : Bound) (b : Start) → Started file.defs entry args.items b → (k : EntryTyped file.defs entry)
-      → EndsWith k.function.result (outcome_of (done seen (length b.passed.memory)) (run_from (called_by_host file) bound b))
-  started_run entry args bound b st k =
+  -- the run from a start
+  pub started_fine : (entry : List ℕ) (args : Arguments) (bound : Bound) (b : Start) → Started file.defs entry args.items b → (k : EntryTyped file.defs entry)
+      → After (Fine file.defs b.passed.memory (at k.function.vars [] k.function.result)) (run_from (called_by_host file) bound b)
+  started_fine entry args bound b st k =
       let f = k.function in
       let fs = facts file.defs typed in
       let fun = fs.function entry f k.is in
@@ -364,10 +365,14 @@ module _ (file : SourceFile) (typed : AreWellTyped file.defs) (can : EachForm (C
       let proper = bodies_proper file.defs typed can in
       let calls = enter file.defs bound.depth in
       let run = body_sound file.defs fs proper calls (enter_sound file.defs fs proper bound.depth) entry f k.is at_args refl into.vars s into.there all.memory in
-      let there : After (Fine file.defs m (at f.vars [] f.result)) (run_from (called_by_host file) bound b) =
       subst (λ (z : Function). After (Fine file.defs m (at f.vars [] f.result)) (eval file.defs calls z.body (env_of z [] b.passed.given) s)) same
-      (subst (λ z. After (Fine file.defs m (at f.vars [] f.result)) (eval file.defs calls fun.body.body (env_of fun.body [] z) s)) vars run) in
-      ends_with file.defs f.vars m f.result (length m) (run_from (called_by_host file) bound b) k.answer there
+      (subst (λ z. After (Fine file.defs m (at f.vars [] f.result)) (eval file.defs calls fun.body.body (env_of fun.body [] z) s)) vars run)
+
+  started_run : (entry : List ℕ) (args : Arguments) (bound : Bound) (b : Start) → Started file.defs entry args.items b → (k : EntryTyped file.defs entry)
+      → EndsWith k.function.result (outcome_of (done seen (length b.passed.memory)) (run_from (called_by_host file) bound b))
+  started_run entry args bound b st k =
+      let m : List Block = b.passed.memory in
+      ends_with file.defs k.function.vars m k.function.result (length m) (run_from (called_by_host file) bound b) k.answer (started_fine entry args bound b st k)
 
   pub runs_well : (entry : List ℕ) (args : Arguments) (bound : Bound) → ArgumentsFit file entry args → RunsWell file entry args bound
   runs_well entry args bound fit =

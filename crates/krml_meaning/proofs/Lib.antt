@@ -3,6 +3,7 @@ pub mod Branches
 pub mod Buffers
 pub mod Closing
 pub mod Earlier
+pub mod Endings
 pub mod Entries
 pub mod Evals
 pub mod Examples

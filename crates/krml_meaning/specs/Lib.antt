@@ -1,3 +1,4 @@
+pub mod Endings
 pub mod Meaning
 pub mod Numbered
 pub mod Shape
