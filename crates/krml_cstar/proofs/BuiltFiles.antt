@@ -18,7 +18,7 @@ use Rattle.krml_syntax.specs.Limits.{counts_in, counts_each, first_above, excess
 use Rattle.krml_syntax.specs.File.{SpellsFile}
 use Rattle.krml_ast.specs.WellTyped.{type_name, con_names, table_name, fun_name}
 use Rattle.krml_ast.specs.Pieces.{Piece, Value, Test, Pattern, Written, Bound, pieces_in}
-use Rattle.krml_ast.specs.FileTypes.{Form, FormIn, EachForm, HasSize, IsSlot, HasSlots, SlotsIn, HasNoMatch, HasNoTag, HasNoCases, HasNoAlloc, HasNoSlots, ClosedIn, IsMonomorphic, TestsIn, IsSourceName, IsVariable, AreNamed, IsTypedFile, IsChecked, IsMono, IsPlain, IsHoisted, field_names, bound_name, listed_vars}
+use Rattle.krml_ast.specs.FileTypes.{Form, FormIn, EachForm, HasSize, IsSlot, HasSlots, SlotsIn, HasNoMatch, HasNoTag, HasNoCases, HasNoAlloc, HasNoSlots, ClosedIn, TestsIn, IsSourceName, IsVariable, IsTypedFile, IsChecked, IsMono, IsPlain, IsHoisted, field_names, bound_name, listed_vars}
 use Rattle.krml_meaning.proofs.Lists.{each_append, each_left, each_right, each_so}
 use Rattle.krml_meaning.proofs.Spelled.{IsSource, all_source, no_cases, no_slots}
 use Rattle.krml_cstar.specs.Built.{is_empty, is_ty_built, are_fields_built, is_expr_built, is_built, AreBuilt}
