@@ -14,7 +14,7 @@ use Rattle.krml_syntax.specs.declared.tree.Def.{Def}
 use Rattle.krml_ast.specs.Names.{Struct, Sum, type_named, field_named}
 use Rattle.krml_syntax.specs.Types.{erased, is_unit_in}
 use Rattle.krml_ast.specs.IsType.{IsValue, IsType, AreArguments}
-use Rattle.krml_ast.specs.Typing.{Vars, at, fields_at}
+use Rattle.krml_ast.specs.Typing.{Vars, at}
 use Rattle.krml_ast.specs.WellTyped.{names_of, AreWellTyped}
 use Rattle.krml_meaning.specs.declared.value.Value.{Value, out-Value}
 use Rattle.krml_meaning.specs.declared.value.Value.TheVariants as v

@@ -2,7 +2,6 @@
 use Rattle.std.proofs.Common.{◌≡◌, ℕ, ◌<◌, ◌≤◌, ◌^◌, true, false, nat_lt, ◌==◌, List, [], ◌∷◌, Option, Some, refl, sym, ap, ◌∙◌, subst, arith}
 use Rattle.std.proofs.lemmas.Bool.Decides.{nat_tests}
 use Rattle.krml_trace.specs.declared.width.Width.{Width}
-use Rattle.krml_trace.specs.declared.width.Width.TheVariants.{W8, W32, W64}
 use Rattle.krml_trace.specs.Width.{bits}
 use Rattle.krml_trace.proofs.Widths.{below_all_widths}
 use Rattle.krml_forms.specs.declared.form.Form.{Form, out-Form}

@@ -7,13 +7,13 @@ use Rattle.std.proofs.lemmas.Bool.Decides.{nat_tests}
 use Rattle.std.proofs.lemmas.Fmt.{length-decimal-le}
 use Rattle.std.proofs.lemmas.List.Sums.{sum_by-cons}
 use Rattle.std.proofs.lemmas.Slice.Eq.{bytes_eq-Decides}
-use Rattle.krml_forms.specs.declared.form.Form.{Form, out-Form, roll-Form, roll-out-Form}
+use Rattle.krml_forms.specs.declared.form.Form.{Form, out-Form}
 use Rattle.krml_forms.specs.declared.form.Form.TheVariants.{Atom, List as Node, outs-Atom, outs-List}
-use Rattle.krml_forms.specs.declared.form.Form.TheFolds.{fold_out-Form, para-roll-Form}
+use Rattle.krml_forms.specs.declared.form.Form.TheFolds.{fold_out-Form}
 use Rattle.krml_forms.specs.Levels.{Within, AllWithin, form_count}
 use Rattle.krml_forms.specs.Writing.{Writable, AllWritable}
 use Rattle.krml_forms.proofs.Layer.{atom_within, list_within, list_inside, count_of_atom, count_of_list}
-use Rattle.krml_syntax.specs.Limits.{word_length, level_word_lengths, word_lengths, is_alloc_in, own_length, level_alloc_lengths, alloc_lengths, first_above}
+use Rattle.krml_syntax.specs.Limits.{word_length, level_word_lengths, word_lengths, is_alloc_in, own_length, alloc_lengths, first_above}
 use Rattle.krml_syntax.specs.Number.{IsNumber, number_of, number_at}
 use Rattle.krml_syntax.proofs.Numbers.{number_at_again}
 use Rattle.krml_syntax.proofs.Limits.{elements_of_atom, elements_of_list}

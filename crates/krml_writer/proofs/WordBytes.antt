@@ -10,7 +10,6 @@ use Rattle.std.proofs.lemmas.Fmt.{digits_decimal, decimal_nonempty}
 use Rattle.std.proofs.lemmas.Str.Parse.{IsNumeralModel, numerals_by_value}
 use Rattle.krml_trace.specs.Byte.{is_letter, is_name_byte}
 use Rattle.krml_trace.specs.Name.{is_reserved, is_name, IsName}
-use Rattle.krml_trace.specs.Width.{bits}
 use Rattle.krml_trace.specs.declared.width.Width.{Width}
 use Rattle.krml_trace.specs.declared.width.Width.TheVariants.{W8, W32, W64}
 use Rattle.krml_forms.specs.Text.{is_word}
