@@ -32,6 +32,11 @@ They differ in one sum, too.
 (sum s () (A) (B) (A))
 0
 
+A constructor of a later sum of one name has the type of that name, so that the later sum alone is at fault.
+(sum s () (A) (B)) (fun f () () s (con B ()))
+(sum s () (A)) (fun f () () s (con B ())) (sum s () (B))
+2
+
 Tables.
 (table t u8 1) (table s u8 1)
 (table t u8 1) (table t u32 1)
