@@ -7,8 +7,8 @@ compile-requires c = record { built = c.in_ok-typed.ensures.built }
 
 pub returns-in_ok-compile-in-C : goal.returns-in_ok-compile-in-C
 returns-in_ok-compile-in-C c =
-    rw c.in-C.is (compiles_by c.checked_files_run.ensures c.args.text.now c.in_ok-compile-in-C.field-0.items c.in_ok-typed.typed c.in_ok-typed.ensures c.in_ok-compile-in-C.ensures, refl)
+    rw c.in-C.is (compiles_by c.checked_files_run.ensures.runs c.args.text.now c.in_ok-compile-in-C.field-0.items c.in_ok-typed.typed c.in_ok-typed.ensures c.in_ok-compile-in-C.ensures, refl)
 
 pub returns-in_ok-from_slice-in-Check : goal.returns-in_ok-from_slice-in-Check
 returns-in_ok-from_slice-in-Check c =
-    rw c.in-Check.is (is_accepted c.checked_files_run.ensures c.args.text.now c.in_ok-typed.typed c.in_ok-typed.ensures, c.in_ok-from_slice-in-Check.ensures.items, refl)
+    rw c.in-Check.is (is_accepted c.checked_files_run.ensures.runs c.args.text.now c.in_ok-typed.typed c.in_ok-typed.ensures, c.in_ok-from_slice-in-Check.ensures.items, refl)
