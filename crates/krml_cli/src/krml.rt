@@ -134,7 +134,8 @@ pub fn krml<S: Source, K: Sink, E: Sink>(
 
     // With status 0 of `c` the input was read to its end, it spells a file whose definitions are well typed and built, and the
     // text of its program was written, which is well formed and does what the file does: the same outcome, and the image of its
-    // events, for each entry, all arguments that fit and each bound, wherever the file is not stuck.
+    // events, for each entry under the name that `name_of` gives, all arguments that fit and each bound, wherever the file is
+    // not stuck.
     ensures compiled { Asks (map string_bytes words.now) C → result ≡ 0 → Compiled (S.left source.old) (S.left source.new) (K.written out.old) (K.written out.new) }
     // With status 0 of `check` it spells such a file, no run of which is undefined, and `accepted` was written.
     ensures accepted { Asks (map string_bytes words.now) Check → result ≡ 0 → Accepted (S.left source.old) (S.left source.new) (K.written out.old) (K.written out.new) }
