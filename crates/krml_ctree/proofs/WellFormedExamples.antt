@@ -387,16 +387,18 @@ types_and_a_table : WellFormed (record { structs = struct (codes "s_a") t.U8 ∷
 unfolding IsDistinct is_name is_reserved
 types_and_a_table = record {
   shapes = record {
-    structs =
-        (record { name = IsStruct.plain (codes "a") refl; fields = (record { ty = TypeKeeps.plain IsPlain.u8; name = IsField.plain (codes "x") refl }, tt) },
-        (record { name = IsStruct.plain (codes "b") refl; fields = (record { ty = TypeKeeps.plain (IsPlain.struct (IsStruct.plain (codes "a") refl)); name = IsField.plain (codes "x") refl }, tt) }, tt));
+    structs = (
+      record { name = IsStruct.plain (codes "a") refl; fields = (record { ty = TypeKeeps.plain IsPlain.u8; name = IsField.plain (codes "x") refl }, tt) },
+      (record { name = IsStruct.plain (codes "b") refl; fields = (record { ty = TypeKeeps.plain (IsPlain.struct (IsStruct.plain (codes "a") refl)); name = IsField.plain (codes "x") refl }, tt) }, tt),
+    );
     tables = (record { name = IsTable.plain (codes "t") refl; nums = (omega arith, tt) }, tt);
     funs = tt;
   };
   distinct_structs = ((refl, tt), (tt, tt));
-  structs =
-      (record { distinct = (tt, tt); fields = (IsKnown.number W8, tt) },
-      (record { distinct = (tt, tt); fields = (IsKnown.struct (struct (codes "s_a") t.U8) (contains_first (struct (codes "s_a") t.U8) []), tt) }, tt));
+  structs = (
+    record { distinct = (tt, tt); fields = (IsKnown.number W8, tt) },
+    (record { distinct = (tt, tt); fields = (IsKnown.struct (struct (codes "s_a") t.U8) (contains_first (struct (codes "s_a") t.U8) []), tt) }, tt),
+  );
   distinct_tables = (tt, tt);
   tables = (record { some = omega arith; most = omega arith }, tt);
   distinct_funs = tt;
@@ -410,27 +412,33 @@ one_more = record {
   shapes = record {
     structs = tt;
     tables = tt;
-    funs = (record {
-      result = ResultKeeps.a_result (TypeKeeps.plain IsPlain.u32);
-      name = IsFunction.plain (codes "f") refl;
-      params = (record { ty = TypeKeeps.plain IsPlain.u32; name = is_v0 }, tt);
-      body = StatementsKeep.one (StatementKeeps.decl (record { ty = TypeKeeps.plain IsPlain.u32; name = is_v1 }) (ExprKeeps.bin (ExprKeeps.var is_v0) (ExprKeeps.lit (IsLiteral.short (omega arith))))) StatementsKeep.none;
-      answer = AnswerKeeps.value (ExprKeeps.var is_v1);
-    }, tt);
+    funs = (
+      record {
+        result = ResultKeeps.a_result (TypeKeeps.plain IsPlain.u32);
+        name = IsFunction.plain (codes "f") refl;
+        params = (record { ty = TypeKeeps.plain IsPlain.u32; name = is_v0 }, tt);
+        body = StatementsKeep.one (StatementKeeps.decl (record { ty = TypeKeeps.plain IsPlain.u32; name = is_v1 }) (ExprKeeps.bin (ExprKeeps.var is_v0) (ExprKeeps.lit (IsLiteral.short (omega arith))))) StatementsKeep.none;
+        answer = AnswerKeeps.value (ExprKeeps.var is_v1);
+      },
+      tt,
+    );
   };
   distinct_structs = tt;
   structs = tt;
   distinct_tables = tt;
   tables = tt;
   distinct_funs = (tt, tt);
-  funs = (record {
-    distinct = subst (IsDistinct bytes_eq) (sym declared) ((refl, tt), (tt, tt));
-    params = (IsKnown.number W32, tt);
-    scope = of_var (variable t.U32 v1) ∷ of_var (variable t.U32 v0) ∷ [];
-    body = StatementsFit.next (of_var (variable t.U32 v1) ∷ of_var (variable t.U32 v0) ∷ [])
-        (StatementFits.decl (IsKnown.number W32) (HasType.bin IsPlainOperator.add IsArithmetic.short (HasType.var (of_var (variable t.U32 v0)) (contains_first _ [])) (HasType.lit W32 1))) StatementsFit.done;
-    answer = AnswerFits.value (IsKnown.number W32) (HasType.var (of_var (variable t.U32 v1)) (contains_first (of_var (variable t.U32 v1)) (of_var (variable t.U32 v0) ∷ [])));
-  }, tt);
+  funs = (
+    record {
+      distinct = subst (IsDistinct bytes_eq) (sym declared) ((refl, tt), (tt, tt));
+      params = (IsKnown.number W32, tt);
+      scope = of_var (variable t.U32 v1) ∷ of_var (variable t.U32 v0) ∷ [];
+      body = StatementsFit.next (of_var (variable t.U32 v1) ∷ of_var (variable t.U32 v0) ∷ [])
+          (StatementFits.decl (IsKnown.number W32) (HasType.bin IsPlainOperator.add IsArithmetic.short (HasType.var (of_var (variable t.U32 v0)) (contains_first _ [])) (HasType.lit W32 1))) StatementsFit.done;
+      answer = AnswerFits.value (IsKnown.number W32) (HasType.var (of_var (variable t.U32 v1)) (contains_first (of_var (variable t.U32 v1)) (of_var (variable t.U32 v0) ∷ [])));
+    },
+    tt,
+  );
 }
   where
     is_v0 : IsVariable v0

@@ -256,8 +256,8 @@ module _ {E M E' M' : Type 0} (sh : Shares E E') where
   pub levels_follow : {X X' A A' : Type 0} (R : X → State E M → X' → M' → Type 0) (Q : A → State E M → A' → M' → Type 0)
       (body : (X → State E M → Ran E M A) → X → State E M → Ran E M A) (body' : (X' → State E' M' → Ran E' M' A') → X' → State E' M' → Ran E' M' A')
       → ((calls : X → State E M → Ran E M A) (calls' : X' → State E' M' → Ran E' M' A')
-        → ((x : X) (s : State E M) (y : X') (m : M') → R x s y m → Follows sh Q (calls x s) (calls' y (beside sh.events s m)))
-        → (x : X) (s : State E M) (y : X') (m : M') → R x s y m → Follows sh Q (body calls x s) (body' calls' y (beside sh.events s m)))
+      → ((x : X) (s : State E M) (y : X') (m : M') → R x s y m → Follows sh Q (calls x s) (calls' y (beside sh.events s m)))
+      → (x : X) (s : State E M) (y : X') (m : M') → R x s y m → Follows sh Q (body calls x s) (body' calls' y (beside sh.events s m)))
       → (levels : ℕ) (x : X) (s : State E M) (y : X') (m : M') → R x s y m → Follows sh Q (within body levels x s) (within body' levels y (beside sh.events s m))
   levels_follow R Q body body' more levels = within_both (λ calls calls'. (x : _) (s : State E M) (y : _) (m : M') → R x s y m → Follows sh Q (calls x s) (calls' y (beside sh.events s m)))
       body body' (λ x s y m h. follows_ends Q Deep s m) more levels

@@ -154,7 +154,7 @@ module _ {E M E' M' X X' A A' : Type 0} (im : Image E M E' M') (R : X → X' →
         → Follows (shared im) (follow.BothTurned (shared im) Starts (InImage im Q) turn turn') (turn x s) (turn' y (beside im.events s m))
     turn_follows x s y m h = follow.follows_so (shared im) _ (follow.BothTurned (shared im) Starts (InImage im Q) turn turn') (turn x s) (turn' y (beside im.events s m))
         (known im (Turned I (λ a s. Unit {0})) BothTurned (turn x s) (turn' y (beside im.events s m)) (kept x s h.0)
-          (in_image im R BothTurned (turn x s) turn' x s y m h.1 (each x y s h.0))) both
+        (in_image im R BothTurned (turn x s) turn' x s y m h.1 (each x y s h.0))) both
 
     pub loop_sim : (x : X) (y : X') (s : State E M) → I x s → R x y → Simulates im Q (loop turn x s) (loop turn' y (image_state im s))
     loop_sim x y s i h = follow.loops_follow (shared im) Starts (InImage im Q) turn turn' (λ x s y m n k. (on x s n k.0, record { memory = k.1.memory; value = k.1.value })) (λ n t s. tt) turn_follows

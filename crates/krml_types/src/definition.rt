@@ -10,11 +10,11 @@ ghost use Rattle.krml_types.specs.Parts.{demand};
 ghost use Rattle.krml_types.specs.Definitions.{ParamsGo};
 ghost use Rattle.krml_types.specs.Definitions.{are_fields, are_cons, all_fit, is_body, is_head, is_int_in, is_outside_in, are_outside, is_answer_in, is_entry, fun_ok, well_typed};
 
+use crate::demands::demand;
 use crate::formed::{are_arguments_before, is_flat, is_type_before, is_unit, is_value};
 use crate::index::Index;
 use crate::judge::Judge;
 use crate::names::{all_new, are_cons_distinct, are_distinct, are_fields_distinct, is_new};
-use crate::demands::demand;
 use krml_ast::NameKind;
 use krml_syntax::{Con, Def, Expr, Field, IntTy, Ty};
 use krml_trace::{Missing, Name, NoMemory};

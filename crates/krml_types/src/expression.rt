@@ -13,9 +13,9 @@ ghost use Rattle.krml_types.specs.Judging.{GivesNumber, IsNumberOf, IsKnown, IsA
 ghost use Rattle.krml_types.specs.Expressions.{has, one_type, each_has, apply_type, are_tests, num_type, joined, may_alloc, items_from, arms_from, cases_from, binary_step, unary_step, flow_step, loop_step, access_step, frame_step, applied_step, part_step, turn_type, type_of, item_of, arm_of, case_of, layer_of, is_result};
 
 use crate::applied::Applied;
+use crate::demands::demand;
 use crate::formed::{is_flat, is_type, is_unit};
 use crate::judge::Judge;
-use crate::demands::demand;
 use krml_ast::Component;
 use krml_syntax::{Arm, Case, Expr, IntTy, Item, Ty};
 use krml_trace::{MAX_ELEMENTS, Missing, Name, Width};

@@ -10,10 +10,10 @@ ghost use Rattle.krml_types.specs.Instances.{serve, make_at, con_at, call_at, fi
 ghost use Rattle.krml_types.specs.Judging.{IsKnown, GivesNumber, GivesApplied, GivesParts, place_in};
 
 use crate::applied::Applied;
+use crate::demands::demand;
 use crate::formed::are_arguments;
 use crate::index::Index;
 use crate::judge::Judge;
-use crate::demands::demand;
 use krml_ast::Component;
 use krml_syntax::{Field, Ty};
 use krml_trace::{Missing, Name};

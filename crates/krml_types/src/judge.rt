@@ -15,8 +15,8 @@ ghost use Rattle.krml_types.specs.Judging.{GivesNumber, IsKnown, IsAt, in_scope,
 ghost use Rattle.krml_types.specs.Scopes.{cut_scope, with_frame, is_framed, slot_type};
 ghost use Rattle.krml_types.specs.Types.{is_flat};
 
-use crate::index::Index;
 use crate::demands::demand;
+use crate::index::Index;
 use krml_ast::{Component, Components};
 use krml_intern::{Scope, TypeTable};
 use krml_syntax::{IntTy, Slot, Ty};

@@ -12,8 +12,8 @@ ghost use Rattle.krml_types.specs.Parts.{demand};
 ghost use Rattle.krml_types.specs.Patterns.{binds, parts_bind};
 ghost use Rattle.krml_types.specs.Types.{same_ty};
 
-use crate::judge::Judge;
 use crate::demands::demand;
+use crate::judge::Judge;
 use krml_ast::Component;
 use krml_syntax::{IntTy, Pat};
 use krml_trace::{Missing, Name};
