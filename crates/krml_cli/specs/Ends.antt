@@ -10,15 +10,12 @@ use Rattle.krml_command.specs.declared.request.Command.{Command}
 use Rattle.krml_command.specs.declared.request.Command.TheVariants.{C, Check}
 use Rattle.krml_command.specs.declared.request.Request.{Request}
 use Rattle.krml_command.specs.Request.{request_of}
+use Rattle.krml_trace.specs.Limits.{max_text}
 use Rattle.krml_cli.specs.declared.stop.Stop.{Stop}
 use Rattle.krml_cli.specs.declared.stop.Stop.TheVariants as stop
 use Rattle.krml_cli.specs.declared.refusal.FileRefusal.{FileRefusal}
 use Rattle.krml_cli.specs.Refusal.{Accepts, Refuses, IsCause, refusal_line}
 use Rattle.krml_cli.specs.Theorem.{IsCompiled, EachRunsWell}
-
--- the bytes of a source text at the most
-abbrev pub max_text : ℕ
-max_text = 1048576
 
 -- the bytes of a command's input at the most
 abbrev pub limit_of : Command → ℕ

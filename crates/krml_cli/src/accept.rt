@@ -1,3 +1,5 @@
+//! Which texts are accepted.
+
 ghost use Rattle.krml_cli.specs.Accept.{IsAnswered};
 
 use crate::built::first_unbuilt;

@@ -1,13 +1,12 @@
+//! Reading the input of a command.
+
 ghost use Rattle.std.specs.Prelude.{◌≡◌, ◌<◌, ◌^◌};
 ghost use Rattle.krml_cli.specs.Ends.{TakesInput, limit_of};
 
 use crate::stop::Stop;
 use krml_command::Command;
-use krml_trace::Source;
+use krml_trace::{MAX_TEXT, Source};
 use std::alloc::{AllocError, Global};
-
-/// The bytes of a source text at the most.
-const MAX_TEXT: usize = 1_048_576;
 
 /// The bytes that a read asks for at the most.
 const PIECE: usize = 4096;

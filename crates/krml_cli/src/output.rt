@@ -1,3 +1,5 @@
+//! What a command writes, and writing it.
+
 ghost use Rattle.std.specs.Prelude.{◌≡◌};
 ghost use Rattle.krml_cli.specs.Ends.{WritesAll};
 

@@ -1,10 +1,12 @@
+//! Why an input is refused, and the words for it.
+
 ghost use Rattle.std.specs.Prelude.{◌≡◌, IfOk};
 ghost use Rattle.std.specs.String.{string_bytes};
 ghost use Rattle.krml_cli.specs.Accept.{IsNotBuiltAt};
 ghost use Rattle.krml_cli.specs.Refusal.{read_refusal_words, refusal_words, refusal_line};
 
 use krml_reader::{ReadRefusal, kind_word};
-use krml_trace::NoMemory;
+use krml_trace::{NoMemory, count};
 use krml_types::TypeRefusal;
 use std::alloc::Global;
 use thiserror::Error;
@@ -31,7 +33,7 @@ impl FileRefusal {
     pub fn not_built(place: usize) -> FileRefusal
         ensures { IsNotBuiltAt place result }
     {
-        match u32::try_from(place) {
+        match count(place) {
             Ok(def) => FileRefusal::NotBuilt { def },
             Err(_) => FileRefusal::NoMemory,
         }

@@ -1,3 +1,5 @@
+//! Why a call stops without its output, and the line for it.
+
 use crate::refusal::FileRefusal;
 use krml_command::WordsRefusal;
 

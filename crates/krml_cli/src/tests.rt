@@ -1,3 +1,5 @@
+//! Tests of the top call: whole texts in and out.
+
 ghost use Rattle.std.specs.Prelude.{◌≢◌, ◌≤◌, IfOk};
 
 use crate::krml::krml;

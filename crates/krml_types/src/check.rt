@@ -1,3 +1,5 @@
+//! Checking the types of a file.
+
 ghost use Rattle.std.specs.Prelude.{◌≡◌, IfOk};
 ghost use Rattle.krml_ast.specs.FileTypes.{IsSpelled};
 ghost use Rattle.krml_types.specs.Check.{fault_from, first_fault, IsRightAnswer};
@@ -7,7 +9,7 @@ use crate::judge::Judge;
 use crate::refusal::TypeRefusal;
 use crate::typed_file::TypedFile;
 use krml_syntax::{Def, SourceFile};
-use krml_trace::NoMemory;
+use krml_trace::{NoMemory, count};
 use std::alloc::Global;
 
 impl<'n, 'a> Judge<'n, 'a> {
@@ -43,7 +45,7 @@ pub fn check_types(alloc: Global, file: SourceFile) -> Result<TypedFile, TypeRef
 {
     match first_fault(alloc, file.defs.as_slice())? {
         None => Ok(TypedFile::new(file)),
-        Some(k) => match u32::try_from(k) {
+        Some(k) => match count(k) {
             Ok(def) => Err(TypeRefusal::Fault { def }),
             Err(_) => Err(TypeRefusal::NoMemory),
         },

@@ -1,3 +1,5 @@
+//! The file of a text whose definitions are well typed.
+
 ghost use Rattle.std.specs.Prelude.{◌≡◌, None};
 ghost use Rattle.krml_ast.specs.WellTyped.{AreWellTyped};
 ghost use Rattle.krml_ast.specs.FileTypes.{IsTypedFile};
