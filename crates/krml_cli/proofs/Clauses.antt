@@ -13,7 +13,8 @@ use Rattle.krml_cli.specs.declared.refusal.FileRefusal.{FileRefusal}
 use Rattle.krml_cli.specs.declared.refusal.FileRefusal.TheVariants.{Read}
 use Rattle.krml_cli.specs.declared.stop.Stop.{Stop}
 use Rattle.krml_cli.specs.declared.stop.Stop.TheVariants as stop
-use Rattle.krml_cli.specs.Ends.{Asks, IsUsage, AcceptsNone, Makes, IsOutput, Taken, max_text, limit_of, AppendsPrefix, Call, Stops, Ends, Compiled, Accepted, Refused, RefusedFor, FailedNotes, PrefixOnly, HasLine, IsLine, IsNoted, IsPlain, IsCut, line_of, status_of}
+use Rattle.krml_trace.specs.Limits.{max_text}
+use Rattle.krml_cli.specs.Ends.{Asks, IsUsage, AcceptsNone, Makes, IsOutput, Taken, limit_of, AppendsPrefix, Call, Stops, Ends, Compiled, Accepted, Refused, RefusedFor, FailedNotes, PrefixOnly, HasLine, IsLine, IsNoted, IsPlain, IsCut, line_of, status_of}
 use Rattle.krml_cli.specs.Refusal.{Accepts, Refuses}
 use Rattle.krml_cli.proofs.Refusals.{OneAnswer, asks_one, asks_is_no_usage, accepts_none, one_refusal, is_cause, makes_accepted, accepted_short}
 

@@ -14,7 +14,8 @@ use Rattle.krml_command.specs.declared.request.Command.TheVariants.{C, Check}
 use Rattle.krml_command.specs.declared.request.Request.{Request}
 use Rattle.krml_cli.specs.declared.refusal.FileRefusal.{FileRefusal}
 use Rattle.krml_cli.specs.declared.refusal.FileRefusal.TheVariants.{Read, «Type» as IllTyped, NotBuilt}
-use Rattle.krml_cli.specs.Ends.{Asks, IsUsage, AcceptsNone, Makes, max_text}
+use Rattle.krml_cli.specs.Ends.{Asks, IsUsage, AcceptsNone, Makes}
+use Rattle.krml_trace.specs.Limits.{max_text}
 use Rattle.krml_cli.specs.Refusal.{Accepts, Refuses, IsCause}
 use Rattle.krml_cli.proofs.built.Unbuilt.{none_unbuilt}
 

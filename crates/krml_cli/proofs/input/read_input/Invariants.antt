@@ -1,6 +1,6 @@
 use Rattle.std.proofs.Common.{◌≡◌, ◌+◌, ◌-◌, ◌≤◌, length}
 use Rattle.std.specs.Io.KnownBytes.{Consumes}
-use Rattle.krml_cli.specs.Ends.{max_text}
+use Rattle.krml_trace.specs.Limits.{max_text}
 use Rattle.krml_cli.proofs.input.read_input.Given as goal
 
 abbrev pub invariant-loop-piece : goal.invariant-loop-piece
