@@ -1,8 +1,7 @@
 -- A file whose definitions are built has the form of each file between passes: no pass before the last has anything to do.
-use Rattle.std.proofs.Common.{◌≡◌, ℕ, ◌≤◌, Bool, true, false, ◌&&◌, nat_lt, if◌then◌else◌, List, [], ◌∷◌, map, flat_map, Option, Some, None, inl, refl, sym, subst, arith}
+use Rattle.std.proofs.Common.{◌≡◌, ℕ, ◌≤◌, Bool, true, ◌&&◌, List, [], ◌∷◌, map, flat_map, Option, Some, None, inl, refl, sym, subst, arith}
 use Rattle.std.specs.List.{AllByRecursion}
 use Rattle.std.proofs.lemmas.Bool.{and_parts}
-use Rattle.std.proofs.lemmas.Bool.Decides.{nat_tests}
 use Rattle.krml_forms.specs.declared.form.Form.{Form as Word}
 use Rattle.krml_syntax.specs.declared.limit.LimitKind.{LimitKind}
 use Rattle.krml_syntax.specs.declared.limit.LimitKind.TheVariants as k
@@ -14,8 +13,9 @@ use Rattle.krml_syntax.specs.declared.tree.Def.TheVariants as d
 use Rattle.krml_syntax.specs.declared.tree.SourceFile.{SourceFile}
 use Rattle.krml_syntax.specs.Name.{IsName}
 use Rattle.krml_syntax.specs.Spelling.{Each, SpellsField, SpellsDef}
-use Rattle.krml_syntax.specs.Limits.{counts_in, counts_each, first_above, excess, excess_or, first_excess, first_excess_of}
+use Rattle.krml_syntax.specs.Limits.{counts_in, counts_each, excess, excess_or, first_excess, first_excess_of}
 use Rattle.krml_syntax.specs.File.{SpellsFile}
+use Rattle.krml_syntax.proofs.Limits.{none_above}
 use Rattle.krml_ast.specs.WellTyped.{type_name, con_names, table_name, fun_name}
 use Rattle.krml_ast.specs.Pieces.{Piece, Value, Test, Pattern, Written, Bound, pieces_in}
 use Rattle.krml_ast.specs.FileTypes.{Form, FormIn, EachForm, HasSize, IsSlot, HasSlots, SlotsIn, HasNoMatch, HasNoTag, HasNoCases, HasNoAlloc, HasNoSlots, ClosedIn, TestsIn, IsSourceName, IsVariable, IsTypedFile, IsChecked, IsMono, IsPlain, IsHoisted, field_names, bound_name, listed_vars}
@@ -93,16 +93,6 @@ bound_named (Written a ∷ pieces) h = bound_named pieces h.1
 bound_named (Bound x ∷ pieces) h = (h.0, bound_named pieces h.1)
 
 -- ---- sizes
-
--- no count is above a limit where none is the first
-none_above : (limit : ℕ) (ns : List ℕ) → first_above limit ns ≡ None → AllByRecursion (λ n. n ≤ limit) ns
-none_above limit [] h = tt
-none_above limit (n ∷ ns) h = go (nat_lt limit n) refl h (none_above limit ns)
-  where
-    go : (b : Bool) → nat_lt limit n ≡ b → (if b then Some n else first_above limit ns) ≡ None → (first_above limit ns ≡ None → AllByRecursion (λ n. n ≤ limit) ns)
-        → AllByRecursion (λ n. n ≤ limit) (n ∷ ns)
-    go true q e' rest = absurd (cc)
-    go false q e' rest = (grind (arith, nat_tests), rest e')
 
 no_excess : (kind : LimitKind) (later : Option (LimitKind × ℕ)) (o : Option ℕ) → excess_or kind later o ≡ None → (o ≡ None) × (later ≡ None)
 no_excess kind later None h = (refl, h)
