@@ -21,7 +21,7 @@ use Rattle.krml_cli.proofs.Refusals.{OneAnswer, asks_one, asks_is_no_usage, acce
 -- what a command makes it makes with status 0
 made_zero : (command : Command) (input text : List ℕ) (status : ℕ) → Makes command input text status → status ≡ 0
 made_zero C input text status m = m.1
-made_zero Check input text status m = m.1.1
+made_zero Check input text status m = m.2
 
 zero : {words : List (List ℕ)} {left left' : Option (List ℕ)} {text : List ℕ} {status : ℕ} → IsOutput words left left' text status → status ≡ 0
 zero {text = text} {status = status} t = made_zero t.command t.input text status t.made
@@ -225,7 +225,7 @@ accepted c _ (Ends.done {text = text} {status = status} t q a k n m) is e =
       taken = subst (λ k. Taken k c.left c.left' t.input) same t.taken;
       accepted = made.0.accepted;
       sound = made.0.sound;
-      appended = subst (Appends c.written c.written') made.1.0 a;
+      appended = subst (Appends c.written c.written') made.1 a;
     }
 accepted c _ (Ends.noted {why = stop.Refused why} s a q) is e = absurd (omega arith)
 accepted c _ (Ends.noted {why = stop.Usage} s a q) is e = absurd (omega arith)
