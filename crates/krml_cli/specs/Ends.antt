@@ -158,7 +158,7 @@ FailedNotes status faults faults' = (status ≡ 4) × Rose faults faults'
 abbrev pub PrefixOnly : (words : List (List ℕ)) (left left' written written' : Option (List ℕ)) → Type 0
 PrefixOnly words left left' written written' = (written' ≡ written) ⊎ ((text : List ℕ) × (status : ℕ) × IsOutput words left left' text status × AppendsPrefix written written' text)
 
--- What stops a call is a refusal of the input, or none.
+-- What stops a call has a line of its own: a refusal, where want of memory is none.
 abbrev pub HasLine : Stop → Type 0
 HasLine (stop.Refused why) = IsCause why
 HasLine stop.Usage = Unit {0}
