@@ -370,7 +370,8 @@ abbrev pub is_scalar_in : CType-F CType → Bool
 is_scalar_in CType-F.U8 = true
 is_scalar_in CType-F.U32 = true
 is_scalar_in CType-F.U64 = true
-is_scalar_in _ = false
+is_scalar_in (CType-F.Struct x) = false
+is_scalar_in (CType-F.Ptr a) = false
 
 abbrev pub gives_scalar : Option CType → Bool
 gives_scalar None = true

@@ -69,11 +69,30 @@ table_named p x = the_only (filter (λ t. bytes_eq t.1.name x) (numbered 0 p.tab
 
 abbrev pub same_in : CType-F (CType → Bool) → CType-F CType → Bool
 same_in CType-F.U8 CType-F.U8 = true
+same_in CType-F.U8 CType-F.U32 = false
+same_in CType-F.U8 CType-F.U64 = false
+same_in CType-F.U8 (CType-F.Struct y) = false
+same_in CType-F.U8 (CType-F.Ptr a) = false
+same_in CType-F.U32 CType-F.U8 = false
 same_in CType-F.U32 CType-F.U32 = true
+same_in CType-F.U32 CType-F.U64 = false
+same_in CType-F.U32 (CType-F.Struct y) = false
+same_in CType-F.U32 (CType-F.Ptr a) = false
+same_in CType-F.U64 CType-F.U8 = false
+same_in CType-F.U64 CType-F.U32 = false
 same_in CType-F.U64 CType-F.U64 = true
+same_in CType-F.U64 (CType-F.Struct y) = false
+same_in CType-F.U64 (CType-F.Ptr a) = false
+same_in (CType-F.Struct x) CType-F.U8 = false
+same_in (CType-F.Struct x) CType-F.U32 = false
+same_in (CType-F.Struct x) CType-F.U64 = false
 same_in (CType-F.Struct x) (CType-F.Struct y) = bytes_eq x y
+same_in (CType-F.Struct x) (CType-F.Ptr a) = false
+same_in (CType-F.Ptr f) CType-F.U8 = false
+same_in (CType-F.Ptr f) CType-F.U32 = false
+same_in (CType-F.Ptr f) CType-F.U64 = false
+same_in (CType-F.Ptr f) (CType-F.Struct y) = false
 same_in (CType-F.Ptr f) (CType-F.Ptr a) = f a
-same_in _ _ = false
 
 abbrev pub same_type : CType → CType → Bool
 same_type = fold-CType (CType → Bool) (λ x a. same_in x (out-CType a))
@@ -86,7 +105,9 @@ is_there None = false
 abbrev pub is_known_in : CProgram → CType-F Bool → Bool
 is_known_in p (CType-F.Struct x) = is_there (struct_named p x)
 is_known_in p (CType-F.Ptr b) = b
-is_known_in p _ = true
+is_known_in p CType-F.U8 = true
+is_known_in p CType-F.U32 = true
+is_known_in p CType-F.U64 = true
 
 abbrev pub is_known : CProgram → CType → Bool
 is_known p = fold-CType Bool (is_known_in p)
@@ -95,13 +116,36 @@ abbrev pub block_has : Option CBlock → CType → Bool
 block_has None a = false
 block_has (Some b) a = same_type b.elem a
 
+-- the type of numbers of a width
+abbrev pub is_number_type : Width → CType-F CType → Bool
+is_number_type W8 CType-F.U8 = true
+is_number_type W8 CType-F.U32 = false
+is_number_type W8 CType-F.U64 = false
+is_number_type W8 (CType-F.Struct y) = false
+is_number_type W8 (CType-F.Ptr a) = false
+is_number_type W32 CType-F.U8 = false
+is_number_type W32 CType-F.U32 = true
+is_number_type W32 CType-F.U64 = false
+is_number_type W32 (CType-F.Struct y) = false
+is_number_type W32 (CType-F.Ptr a) = false
+is_number_type W64 CType-F.U8 = false
+is_number_type W64 CType-F.U32 = false
+is_number_type W64 CType-F.U64 = true
+is_number_type W64 (CType-F.Struct y) = false
+is_number_type W64 (CType-F.Ptr a) = false
+
 abbrev pub has_type_in : List CBlock → CValue-F CValue → CType-F CType → Bool
-has_type_in m (CValue-F.Num W8 n) CType-F.U8 = true
-has_type_in m (CValue-F.Num W32 n) CType-F.U32 = true
-has_type_in m (CValue-F.Num W64 n) CType-F.U64 = true
+has_type_in m (CValue-F.Num w n) a = is_number_type w a
+has_type_in m (CValue-F.Struct x xs) CType-F.U8 = false
+has_type_in m (CValue-F.Struct x xs) CType-F.U32 = false
+has_type_in m (CValue-F.Struct x xs) CType-F.U64 = false
 has_type_in m (CValue-F.Struct x xs) (CType-F.Struct y) = bytes_eq x y
+has_type_in m (CValue-F.Struct x xs) (CType-F.Ptr a) = false
+has_type_in m (CValue-F.Ptr n i) CType-F.U8 = false
+has_type_in m (CValue-F.Ptr n i) CType-F.U32 = false
+has_type_in m (CValue-F.Ptr n i) CType-F.U64 = false
+has_type_in m (CValue-F.Ptr n i) (CType-F.Struct y) = false
 has_type_in m (CValue-F.Ptr n i) (CType-F.Ptr a) = block_has (slice_get m n) a
-has_type_in m _ _ = false
 
 -- whether a value is of a type: a pointer is of that to its block's elements
 abbrev pub has_type : List CBlock → CValue → CType → Bool
