@@ -1,6 +1,7 @@
 -- Lists: lengths, and what holds of each element.
 use Rattle.std.proofs.Common.{◌≡◌, ℕ, zero, suc, ◌<◌, ◌≤◌, List, [], ◌∷◌, ◌++◌, map, length, Option, Some, None, slice_get, Contains, refl, sym, ap, ◌∙◌, subst, arith}
 use Rattle.std.specs.List.{AllByRecursion}
+pub use Rattle.krml_trace.proofs.Lists.{map_length, map_twice, map_same, each_append, each_left, each_right, each_so}
 use Rattle.krml_meaning.specs.State.{set_or_add}
 
 abbrev or_else : {A : Type 0} → A → Option A → A
@@ -34,18 +35,6 @@ set_more [] n a h = omega (arith, h)
 set_more (x ∷ m) zero a h = omega arith
 set_more (x ∷ m) (suc n) a h = let ih = set_more m n a (omega (arith, h)) in omega (arith, ih)
 
-pub map_length : {A B : Type 0} (f : A → B) (xs : List A) → length (map f xs) ≡ length xs
-map_length f [] = refl
-map_length f (x ∷ xs) = ap suc (map_length f xs)
-
-pub map_twice : {A B C : Type 0} (f : A → B) (g : B → C) (xs : List A) → map g (map f xs) ≡ map (λ x. g (f x)) xs
-map_twice f g [] = refl
-map_twice f g (x ∷ xs) = ap (λ z. g (f x) ∷ z) (map_twice f g xs)
-
-pub map_same : {A B : Type 0} (f g : A → B) (xs : List A) → ((x : A) → f x ≡ g x) → map f xs ≡ map g xs
-map_same f g [] h = refl
-map_same f g (x ∷ xs) h = ap (λ z. z ∷ map f xs) (h x) ∙ ap (λ z. g x ∷ z) (map_same f g xs h)
-
 -- ---- each element
 
 module _ {A : Type 0} (P : A → Type 0) where
@@ -59,18 +48,6 @@ module _ {A : Type 0} (P : A → Type 0) where
   each_set (x ∷ m) zero a h p = (p, h.1)
   each_set (x ∷ m) (suc n) a h p = (h.0, each_set m n a h.1 p)
 
-  pub each_append : (m l : List A) → AllByRecursion P m → AllByRecursion P l → AllByRecursion P (m ++ l)
-  each_append [] l h k = k
-  each_append (x ∷ m) l h k = (h.0, each_append m l h.1 k)
-
-  pub each_left : (m l : List A) → AllByRecursion P (m ++ l) → AllByRecursion P m
-  each_left [] l h = tt
-  each_left (x ∷ m) l h = (h.0, each_left m l h.1)
-
-  pub each_right : (m l : List A) → AllByRecursion P (m ++ l) → AllByRecursion P l
-  each_right [] l h = h
-  each_right (x ∷ m) l h = each_right m l h.1
-
   pub each_contains : (xs : List A) (x : A) → AllByRecursion P xs → Contains xs x → P x
   each_contains [] x h k = absurd (omega (arith, k.1))
   each_contains (y ∷ ys) x h (zero, k, e) = subst P e h.0
@@ -79,7 +56,3 @@ module _ {A : Type 0} (P : A → Type 0) where
   pub each_among : (xs : List A) → ((x : A) → Contains xs x → P x) → AllByRecursion P xs
   each_among [] h = tt
   each_among (x ∷ xs) h = (h x (0, omega arith, refl), each_among xs (λ y k. h y (suc k.0, omega (arith, k.1), k.2)))
-
-pub each_so : {A : Type 0} (P Q : A → Type 0) (xs : List A) → ((x : A) → P x → Q x) → AllByRecursion P xs → AllByRecursion Q xs
-each_so P Q [] f h = tt
-each_so P Q (x ∷ xs) f h = (f x h.0, each_so P Q xs f h.1)
