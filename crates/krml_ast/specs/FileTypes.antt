@@ -9,16 +9,13 @@ use Rattle.krml_syntax.specs.declared.tree.IntTy.{IntTy}
 use Rattle.krml_syntax.specs.declared.tree.Ty.{Ty, out-Ty}
 use Rattle.krml_syntax.specs.declared.tree.Ty.TheOpen.{Ty-F}
 use Rattle.krml_syntax.specs.declared.tree.CmpOp.TheVariants.{Eq}
-use Rattle.krml_syntax.specs.declared.tree.Arm.{Arm}
-use Rattle.krml_syntax.specs.declared.tree.Case.{Case}
-use Rattle.krml_syntax.specs.declared.tree.Item.{Item}
 use Rattle.krml_syntax.specs.declared.tree.Expr.{Expr, out-Expr}
 use Rattle.krml_syntax.specs.declared.tree.Expr.TheVariants as e
-use Rattle.krml_syntax.specs.declared.tree.Expr.TheOpen.{Expr-F}
 use Rattle.krml_syntax.specs.declared.tree.Def.{Def}
 use Rattle.krml_syntax.specs.declared.tree.Def.TheVariants as d
 use Rattle.krml_syntax.specs.declared.tree.SourceFile.{SourceFile}
 use Rattle.krml_syntax.specs.declared.tree.Slot.{Slot}
+use Rattle.krml_syntax.specs.Shape.{Role, role, type_arguments}
 use Rattle.krml_syntax.specs.File.{SpellsFile}
 use Rattle.krml_syntax.specs.Name.{IsName}
 use Rattle.krml_ast.specs.declared.file.Emitted.{Emitted}
@@ -26,9 +23,9 @@ use Rattle.krml_ast.specs.IsType.{IsFlat, IsType}
 use Rattle.krml_ast.specs.WellTyped.{AreWellTyped, type_name, con_names, table_name, fun_name, entry_name}
 use Rattle.krml_ast.specs.Pieces.{Piece, Value, Test, Written, Bound, pieces_in}
 
--- one layer of an expression, with its parts
-abbrev pub Form : Type 0
-Form = Expr-F Expr Item Arm Case
+-- the role of an expression
+abbrev pub role_of : Expr → Role
+role_of x = role (out-Expr x)
 
 -- ---- what every file keeps
 
@@ -49,12 +46,12 @@ pub record IsSlot (defs : List Def) (s : Slot) : Type 0 where
   pub flat : IsFlat defs s.ty
   pub size : IsBetween 1 max_elements s.len
 
-abbrev pub HasSlots : List Def → Form → Type 0
-HasSlots defs (Expr-F.Frame slots a) = AllByRecursion (IsSlot defs) slots
+abbrev pub HasSlots : List Def → Role → Type 0
+HasSlots defs (Role.frame slots) = AllByRecursion (IsSlot defs) slots
 HasSlots defs _ = Unit {0}
 
 abbrev pub SlotsIn : List Def → Piece → Type 0
-SlotsIn defs (Value x) = HasSlots defs (out-Expr x)
+SlotsIn defs (Value x) = HasSlots defs (role_of x)
 SlotsIn defs _ = Unit {0}
 
 -- The definitions are well typed, and their parts are as many as they may be.
@@ -125,20 +122,14 @@ listed_vars (d.Sum x vars cons) = vars
 listed_vars (d.Fun x vars params result body) = vars
 listed_vars _ = []
 
-abbrev pub HasNoArguments : Form → Type 0
-HasNoArguments (Expr-F.Make x args es) = args ≡ []
-HasNoArguments (Expr-F.Con x args es) = args ≡ []
-HasNoArguments (Expr-F.Call x args es) = args ≡ []
-HasNoArguments _ = Unit {0}
-
 abbrev pub IsClosedTy : Ty-F Ty → Type 0
 IsClosedTy (Ty-F.Var x) = ⊥
 IsClosedTy (Ty-F.Named x args) = args ≡ []
 IsClosedTy _ = Unit {0}
 
 abbrev pub ClosedIn : Piece → Type 0
-ClosedIn (Value x) = HasNoArguments (out-Expr x)
-ClosedIn (Test x) = HasNoArguments (out-Expr x)
+ClosedIn (Value x) = type_arguments (out-Expr x) ≡ []
+ClosedIn (Test x) = type_arguments (out-Expr x) ≡ []
 ClosedIn (Written a) = IsClosedTy (out-Ty a)
 ClosedIn _ = Unit {0}
 
@@ -147,25 +138,25 @@ pub record IsMonomorphic (defs : List Def) : Type 0 where
   pub pieces : AllByRecursion ClosedIn (pieces_in defs)
 
 -- what a pass makes of a match
-abbrev pub HasNoCases : Form → Type 0
-HasNoCases (Expr-F.Cases cases) = ⊥
-HasNoCases (Expr-F.TagIs x a) = ⊥
-HasNoCases (Expr-F.Part x j a) = ⊥
+abbrev pub HasNoCases : Role → Type 0
+HasNoCases Role.cases = ⊥
+HasNoCases Role.tag_is = ⊥
+HasNoCases Role.part = ⊥
 HasNoCases _ = Unit {0}
 
-abbrev pub HasNoMatch : Form → Type 0
-HasNoMatch (Expr-F.Match a arms) = ⊥
+abbrev pub HasNoMatch : Role → Type 0
+HasNoMatch Role.match = ⊥
 HasNoMatch _ = Unit {0}
 
 -- frames have no slots yet
-abbrev pub HasNoSlots : Form → Type 0
-HasNoSlots (Expr-F.Frame slots a) = slots ≡ []
-HasNoSlots (Expr-F.Fill k a) = ⊥
+abbrev pub HasNoSlots : Role → Type 0
+HasNoSlots (Role.frame slots) = slots ≡ []
+HasNoSlots Role.fill = ⊥
 HasNoSlots _ = Unit {0}
 
 -- frames have their slots
-abbrev pub HasNoAlloc : Form → Type 0
-HasNoAlloc (Expr-F.Alloc b n a) = ⊥
+abbrev pub HasNoAlloc : Role → Type 0
+HasNoAlloc Role.alloc = ⊥
 HasNoAlloc _ = Unit {0}
 
 -- ---- tests of cases
@@ -184,23 +175,23 @@ pub data IsTest : Expr → Type 0 where
   opposite : (a : Expr) → IsPlace a → IsTest (e.Not a)
 
 -- the constructor of a value is asked for in tests alone
-abbrev pub HasNoTag : Form → Type 0
-HasNoTag (Expr-F.TagIs x a) = ⊥
+abbrev pub HasNoTag : Role → Type 0
+HasNoTag Role.tag_is = ⊥
 HasNoTag _ = Unit {0}
 
 abbrev pub TestsIn : Piece → Type 0
-TestsIn (Value x) = HasNoTag (out-Expr x)
+TestsIn (Value x) = HasNoTag (role_of x)
 TestsIn (Test x) = IsTest x
 TestsIn _ = Unit {0}
 
--- each expression in a definition is of a form, tests of cases among them
-abbrev pub FormIn : (Form → Type 0) → Piece → Type 0
-FormIn P (Value x) = P (out-Expr x)
-FormIn P (Test x) = P (out-Expr x)
-FormIn P _ = Unit {0}
+-- what holds of the role of each expression in a definition, tests of cases among them
+abbrev pub RoleIn : (Role → Type 0) → Piece → Type 0
+RoleIn P (Value x) = P (role_of x)
+RoleIn P (Test x) = P (role_of x)
+RoleIn P _ = Unit {0}
 
-abbrev pub EachForm : (Form → Type 0) → List Def → Type 0
-EachForm P defs = AllByRecursion (FormIn P) (pieces_in defs)
+abbrev pub EachRole : (Role → Type 0) → List Def → Type 0
+EachRole P defs = AllByRecursion (RoleIn P) (pieces_in defs)
 
 -- ---- the forms
 
@@ -223,25 +214,25 @@ pub record IsMono (file : SourceFile) : Type 0 where
   pub regular : IsRegular file.defs
   pub named : AreNamed IsSourceName IsSourceName IsName IsSourceName IsName IsName file.defs
   pub monomorphic : IsMonomorphic file.defs
-  pub cases : EachForm HasNoCases file.defs
-  pub slots : EachForm HasNoSlots file.defs
+  pub cases : EachRole HasNoCases file.defs
+  pub slots : EachRole HasNoSlots file.defs
 
 -- A file without matches, in place of which cases stand.
 pub record IsPlain (file : SourceFile) : Type 0 where
   pub regular : IsRegular file.defs
   pub named : AreNamed IsSourceName IsSourceName IsName IsSourceName IsName IsVariable file.defs
   pub monomorphic : IsMonomorphic file.defs
-  pub matches : EachForm HasNoMatch file.defs
+  pub matches : EachRole HasNoMatch file.defs
   pub tests : AllByRecursion TestsIn (pieces_in file.defs)
-  pub slots : EachForm HasNoSlots file.defs
+  pub slots : EachRole HasNoSlots file.defs
 
 -- what a hoisted file and a bundled one have in common
 pub record HasSlotsListed (defs : List Def) : Type 0 where
   pub regular : IsRegular defs
   pub monomorphic : IsMonomorphic defs
-  pub matches : EachForm HasNoMatch defs
+  pub matches : EachRole HasNoMatch defs
   pub tests : AllByRecursion TestsIn (pieces_in defs)
-  pub allocs : EachForm HasNoAlloc defs
+  pub allocs : EachRole HasNoAlloc defs
 
 -- A file whose frames list their slots.
 pub record IsHoisted (file : SourceFile) : Type 0 where

@@ -17,6 +17,7 @@ use Rattle.krml_syntax.specs.declared.tree.Expr.TheOpen.{Expr-F, Item-F, Arm-F, 
 use Rattle.krml_syntax.specs.declared.tree.Expr.TheFolds.{para-Expr}
 use Rattle.krml_syntax.specs.declared.tree.Def.{Def}
 use Rattle.krml_syntax.specs.declared.tree.Def.TheVariants as d
+use Rattle.krml_syntax.specs.Shape.{Part, parts_of}
 
 pub data Piece : Type 0 where
   -- an expression that is no test of a case
@@ -66,55 +67,40 @@ test a = Test a.0 ∷ a.1
 abbrev pub Layer : Type 0
 Layer = Expr-F With (Item × List Piece) (Arm × List Piece) (Case × List Piece)
 
--- the types that a form writes by itself
-abbrev pub written_types : Layer → List Ty
-written_types (Expr-F.Num i n) = t.Int i ∷ []
-written_types (Expr-F.Bin op i a b) = t.Int i ∷ []
-written_types (Expr-F.Shift left i a n) = t.Int i ∷ []
-written_types (Expr-F.Cmp op i a b) = t.Int i ∷ []
-written_types (Expr-F.Cast i j a) = t.Int i ∷ t.Int j ∷ []
-written_types (Expr-F.Hide i a) = t.Int i ∷ []
-written_types (Expr-F.Make x args es) = args
-written_types (Expr-F.Con x args es) = args
-written_types (Expr-F.Frame slots a) = map (λ s. s.ty) slots
-written_types (Expr-F.Alloc b n a) = b ∷ []
-written_types (Expr-F.Call x args es) = args
-written_types _ = []
+module _ {E I A C : Type 0} where
+  -- the types that a form writes by itself
+  abbrev pub written_types : Expr-F E I A C → List Ty
+  written_types (Expr-F.Num i n) = t.Int i ∷ []
+  written_types (Expr-F.Bin op i a b) = t.Int i ∷ []
+  written_types (Expr-F.Shift left i a n) = t.Int i ∷ []
+  written_types (Expr-F.Cmp op i a b) = t.Int i ∷ []
+  written_types (Expr-F.Cast i j a) = t.Int i ∷ t.Int j ∷ []
+  written_types (Expr-F.Hide i a) = t.Int i ∷ []
+  written_types (Expr-F.Make x args es) = args
+  written_types (Expr-F.Con x args es) = args
+  written_types (Expr-F.Frame slots a) = map (λ s. s.ty) slots
+  written_types (Expr-F.Alloc b n a) = b ∷ []
+  written_types (Expr-F.Call x args es) = args
+  written_types _ = []
 
--- what stands in the parts of a form
-abbrev pub parts : Layer → List Piece
-parts (Expr-F.Var x) = []
-parts Expr-F.Unit = []
-parts (Expr-F.Bool b) = []
-parts (Expr-F.Num i n) = []
-parts (Expr-F.Bin op i a b) = value a ++ value b
-parts (Expr-F.Shift left i a n) = value a ++ value n
-parts (Expr-F.Cmp op i a b) = value a ++ value b
-parts (Expr-F.Not a) = value a
-parts (Expr-F.Cast i j a) = value a
-parts (Expr-F.Hide i a) = value a
-parts (Expr-F.Make x args es) = flat_map value es
-parts (Expr-F.Get y a) = value a
-parts (Expr-F.Con x args es) = flat_map value es
-parts (Expr-F.Read a i) = value a ++ value i
-parts (Expr-F.Write a i v) = value a ++ value i ++ value v
-parts (Expr-F.Slice a i n) = value a ++ value i ++ value n
-parts (Expr-F.Tab x a) = value a
-parts (Expr-F.If c a b) = value c ++ value a ++ value b
-parts (Expr-F.Match a arms) = value a ++ flat_map (λ x. x.1) arms
-parts (Expr-F.Do items a) = flat_map (λ x. x.1) items ++ value a
-parts (Expr-F.Frame slots a) = value a
-parts (Expr-F.Alloc b n a) = value a
-parts (Expr-F.While c a) = value c ++ value a
-parts (Expr-F.For x a b c) = value a ++ value b ++ Bound x ∷ value c
-parts (Expr-F.Call x args es) = flat_map value es
-parts (Expr-F.Cases cases) = flat_map (λ x. x.1) cases
-parts (Expr-F.TagIs x a) = value a
-parts (Expr-F.Part x j a) = value a
-parts (Expr-F.Fill k a) = value a
+  -- the variables that a form binds by itself
+  abbrev pub bound_variables : Expr-F E I A C → List (List ℕ)
+  bound_variables (Expr-F.For x a b c) = x ∷ []
+  bound_variables _ = []
+
+  -- what stands in a form, and in none of its parts
+  abbrev pub own_pieces : Expr-F E I A C → List Piece
+  own_pieces y = flat_map pieces_of_ty (written_types y) ++ map Bound (bound_variables y)
+
+-- what stands in a part
+abbrev pub in_part : Part With (Item × List Piece) (Arm × List Piece) (Case × List Piece) → List Piece
+in_part (Part.expr a) = value a
+in_part (Part.item x) = x.1
+in_part (Part.arm x) = x.1
+in_part (Part.case_ x) = x.1
 
 abbrev pub inside_level : Layer → List Piece
-inside_level x = flat_map pieces_of_ty (written_types x) ++ parts x
+inside_level y = own_pieces y ++ flat_map in_part (parts_of y)
 
 abbrev pub inside_level_item : Item-F With (Item × List Piece) (Arm × List Piece) (Case × List Piece) → List Piece
 inside_level_item (Item-F.Let x b a) = pieces_of_ty b ++ value a ++ Bound x ∷ []

@@ -24,7 +24,7 @@ use Rattle.krml_syntax.specs.declared.tree.SourceFile.{SourceFile}
 use Rattle.krml_syntax.specs.Types.{public, erased, int_ty}
 use Rattle.krml_syntax.proofs.Types.{at_unit, erased_unit, erased_int}
 use Rattle.krml_ast.specs.Typing.{at}
-use Rattle.krml_ast.specs.FileTypes.{EachForm}
+use Rattle.krml_ast.specs.FileTypes.{EachRole}
 use Rattle.krml_ast.specs.WellTyped.{IsAnswer, AreWellTyped}
 use Rattle.krml_meaning.specs.declared.value.Value.{Value, out-Value}
 use Rattle.krml_meaning.specs.declared.value.Value.TheOpen.{Value-F}

@@ -28,7 +28,7 @@ use Rattle.krml_ast.specs.Names.{Signature, fun_named}
 use Rattle.krml_syntax.specs.Types.{public, erased, int_ty, type_at, is_unit_in}
 use Rattle.krml_ast.specs.IsType.{IsValue, AreArguments}
 use Rattle.krml_ast.specs.Typing.{at, fields_at}
-use Rattle.krml_ast.specs.FileTypes.{EachForm}
+use Rattle.krml_ast.specs.FileTypes.{EachRole}
 use Rattle.krml_ast.specs.WellTyped.{IsAnswer, WellTyped, AreWellTyped}
 use Rattle.krml_meaning.specs.declared.value.Value.{Value, out-Value}
 use Rattle.krml_meaning.specs.declared.value.Value.TheOpen.{Value-F}
@@ -345,7 +345,7 @@ some_there None h = absurd (cc)
 
 -- ---- runs
 
-module _ (file : SourceFile) (typed : AreWellTyped file.defs) (can : EachForm (CanRun file.defs) file.defs) where
+module _ (file : SourceFile) (typed : AreWellTyped file.defs) (can : EachRole (CanRun file.defs) file.defs) where
   -- the run from a start
   pub started_fine : (entry : List ℕ) (args : Arguments) (bound : Bound) (b : Start) → Started file.defs entry args.items b → (k : EntryTyped file.defs entry)
       → After (Fine file.defs b.passed.memory (at k.function.vars [] k.function.result)) (run_from (called_by_host file) bound b)

@@ -18,7 +18,6 @@ pub mod Lists
 pub mod Memory
 pub mod Numbered
 pub mod Numbers
-pub mod Pieces
 pub mod Proper
 pub mod Scopes
 pub mod Shapes

@@ -13,31 +13,32 @@ use Rattle.krml_syntax.specs.declared.tree.Pat.TheFolds.{para-Pat, para-roll-Pat
 use Rattle.krml_syntax.specs.declared.tree.Field.{Field}
 use Rattle.krml_syntax.specs.declared.tree.Con.{Con}
 use Rattle.krml_syntax.specs.declared.tree.Arm.{Arm}
+use Rattle.krml_syntax.specs.declared.tree.Case.{Case}
 use Rattle.krml_syntax.specs.declared.tree.Item.{Item}
-use Rattle.krml_syntax.specs.declared.tree.Slot.{Slot}
 use Rattle.krml_syntax.specs.declared.tree.Expr.{Expr, out-Expr}
 use Rattle.krml_syntax.specs.declared.tree.Expr.TheVariants as e
+use Rattle.krml_syntax.specs.declared.tree.Expr.TheOpen.{Expr-F}
 use Rattle.krml_syntax.specs.declared.tree.Def.{Def}
 use Rattle.krml_syntax.specs.declared.tree.SourceFile.{SourceFile}
 use Rattle.krml_syntax.specs.Spelling.{Each, SpellsPat, SpellsPats, Spells, SpellsAll, SpellsArm, SpellsArms, SpellsItem, SpellsItems, SpellsField, SpellsDef}
 use Rattle.krml_syntax.specs.Name.{IsName}
+use Rattle.krml_syntax.specs.Shape.{Part, Role, role, parts_of}
 use Rattle.krml_syntax.specs.File.{SpellsFile}
-use Rattle.krml_ast.specs.Pieces.{Piece, Value, Test, Pattern, Written, Bound, inside_level_ty, inside_level_pat, pieces_of, pieces_of_ty, pieces_of_pat, pieces_of_def, pieces_in, field_types}
-use Rattle.krml_ast.specs.FileTypes.{Form as Made, EachForm, HasNoCases, HasNoSlots, FormIn, IsTypedFile}
+use Rattle.krml_ast.specs.Pieces.{Piece, Value, Test, Pattern, Written, Bound, inside_level_ty, inside_level_pat, pieces_of, pieces_of_ty, pieces_of_pat, pieces_of_def, pieces_in, field_types, own_pieces}
+use Rattle.krml_ast.specs.FileTypes.{EachRole, HasNoCases, HasNoSlots, RoleIn, role_of, IsTypedFile}
 use Rattle.krml_meaning.specs.Sound.{CanRun, CheckedFilesRun}
 use Rattle.krml_meaning.proofs.Entries.{typed_runs}
 use Rattle.krml_meaning.proofs.Lists.{each_append, each_so}
 use Rattle.krml_meaning.proofs.Runnable.{source_can_run}
-use Rattle.krml_meaning.proofs.Pieces as p
-use Rattle.krml_meaning.proofs.Pieces.{inside, inside_item, inside_arm, in_values, in_items, in_arms}
+use Rattle.krml_ast.proofs.Pieces.{Parts, inside_item, inside_arm, HoldsIn, inside_hold, hold_last, let_inside, run_inside, arm_inside}
 
 -- a form that no pass has changed: no cases, and frames without listed slots
-abbrev pub IsSourceForm : Made → Type 0
-IsSourceForm f = HasNoCases f × HasNoSlots f
+abbrev pub IsSourceRole : Role → Type 0
+IsSourceRole r = HasNoCases r × HasNoSlots r
 
 -- what may stand in a file that a text spells
 abbrev pub IsSource : Piece → Type 0
-IsSource (Value x) = IsSourceForm (out-Expr x)
+IsSource (Value x) = IsSourceRole (role_of x)
 IsSource (Test x) = ⊥
 IsSource (Pattern q) = Unit {0}
 IsSource (Written a) = Unit {0}
@@ -98,72 +99,83 @@ mutual
 
 -- ---- expressions
 
--- a form, whose parts stand behind the types that it writes
-form_sourced : (x : Expr) (types : List Ty) (rest : List Piece) → IsSourceForm (out-Expr x) → inside x ≡ p.written types rest → Sourced rest → Sourced (pieces_of x)
-form_sourced x types rest ok e h = (ok, subst Sourced (sym e) (both (flat_map pieces_of_ty types) rest (types_sourced types) h))
+abbrev SourcedIn : Parts → Type 0
+SourcedIn parts = HoldsIn IsSource parts
+
+-- an expression of a form of the source, whose parts are of the source
+form_sourced : (x : Expr) (o : Expr-F Expr Item Arm Case) → out-Expr x ≡ o → IsSourceRole (role o) → Sourced (own_pieces o) → SourcedIn (parts_of o) → Sourced (pieces_of x)
+form_sourced x o is ok own h = (subst (λ z. IsSourceRole (role z)) (sym is) ok, inside_hold IsSource x o is own h)
+
+-- types that are written, and no variable that is bound
+typed : (types : List Ty) → Sourced (flat_map pieces_of_ty types ++ [])
+typed types = both (flat_map pieces_of_ty types) [] (types_sourced types) tt
 
 mutual
   expr_sourced : (f : Form) (x : Expr) → Spells f x → Sourced (pieces_of x)
-  expr_sourced f x (Spells.var {x = y} ok) = form_sourced (e.Var y) [] [] (rw (e.outs-Var y) (tt, tt)) (p.var_inside y) tt
-  expr_sourced f x Spells.unit = form_sourced e.Unit [] [] (rw e.outs-Unit (tt, tt)) p.unit_inside tt
-  expr_sourced f x (Spells.bool {b = b}) = form_sourced (e.Bool b) [] [] (rw (e.outs-Bool b) (tt, tt)) (p.bool_inside b) tt
-  expr_sourced f x (Spells.num {i = i} {n = n} ok) = form_sourced (e.Num i n) (t.Int i ∷ []) [] (rw (e.outs-Num i n) (tt, tt)) (p.num_inside i n) tt
-  expr_sourced f x (Spells.bin {op = o} {i = i} {f = f'} {g = g} {a = a} {b = b} sa sb) = form_sourced (e.Bin o i a b) (t.Int i ∷ []) (pieces_of a ++ pieces_of b) (rw (e.outs-Bin o i a b) (tt, tt)) (p.bin_inside o i a b)
-      (both (pieces_of a) (pieces_of b) (expr_sourced f' a sa) (expr_sourced g b sb))
-  expr_sourced f x (Spells.shift {left = left} {i = i} {f = f'} {g = g} {a = a} {b = b} sa sb) = form_sourced (e.Shift left i a b) (t.Int i ∷ []) (pieces_of a ++ pieces_of b) (rw (e.outs-Shift left i a b) (tt, tt)) (p.shift_inside left i a b)
-      (both (pieces_of a) (pieces_of b) (expr_sourced f' a sa) (expr_sourced g b sb))
-  expr_sourced f x (Spells.cmp {op = o} {i = i} {f = f'} {g = g} {a = a} {b = b} sa sb) = form_sourced (e.Cmp o i a b) (t.Int i ∷ []) (pieces_of a ++ pieces_of b) (rw (e.outs-Cmp o i a b) (tt, tt)) (p.cmp_inside o i a b)
-      (both (pieces_of a) (pieces_of b) (expr_sourced f' a sa) (expr_sourced g b sb))
-  expr_sourced f x (Spells.not {f = f'} {a = a} sa) = form_sourced (e.Not a) ([]) (pieces_of a) (rw (e.outs-Not a) (tt, tt)) (p.not_inside a) (expr_sourced f' a sa)
-  expr_sourced f x (Spells.cast {i = i} {j = j} {f = f'} {a = a} sa) = form_sourced (e.Cast i j a) (t.Int i ∷ t.Int j ∷ []) (pieces_of a) (rw (e.outs-Cast i j a) (tt, tt)) (p.cast_inside i j a) (expr_sourced f' a sa)
-  expr_sourced f x (Spells.hide {i = i} {f = f'} {a = a} sa) = form_sourced (e.Hide i a) (t.Int i ∷ []) (pieces_of a) (rw (e.outs-Hide i a) (tt, tt)) (p.hide_inside i a) (expr_sourced f' a sa)
-  expr_sourced f x (Spells.make {x = y} {fs = fs} {bs = bs} {es = es} ok ts ss) = form_sourced (e.Make y bs es) bs (in_values es) (rw (e.outs-Make y bs es) (tt, tt)) (p.make_inside y bs es) (all_sourced fs es ss)
-  expr_sourced f x (Spells.get {x = y} {f = f'} {a = a} ok sa) = form_sourced (e.Get y a) ([]) (pieces_of a) (rw (e.outs-Get y a) (tt, tt)) (p.get_inside y a) (expr_sourced f' a sa)
-  expr_sourced f x (Spells.con {x = y} {fs = fs} {bs = bs} {es = es} ok ts ss) = form_sourced (e.Con y bs es) bs (in_values es) (rw (e.outs-Con y bs es) (tt, tt)) (p.con_inside y bs es) (all_sourced fs es ss)
-  expr_sourced f x (Spells.read {f = f'} {g = g} {a = a} {b = b} sa sb) = form_sourced (e.Read a b) ([]) (pieces_of a ++ pieces_of b) (rw (e.outs-Read a b) (tt, tt)) (p.read_inside a b)
-      (both (pieces_of a) (pieces_of b) (expr_sourced f' a sa) (expr_sourced g b sb))
-  expr_sourced f x (Spells.write {f = f'} {g = g} {h = h} {a = a} {b = b} {c = c} sa sb sc) = form_sourced (e.Write a b c) [] (pieces_of a ++ pieces_of b ++ pieces_of c) (rw (e.outs-Write a b c) (tt, tt)) (p.write_inside a b c)
-      (both (pieces_of a ++ pieces_of b) (pieces_of c) (both (pieces_of a) (pieces_of b) (expr_sourced f' a sa) (expr_sourced g b sb)) (expr_sourced h c sc))
-  expr_sourced f x (Spells.slice {f = f'} {g = g} {h = h} {a = a} {b = b} {c = c} sa sb sc) = form_sourced (e.Slice a b c) [] (pieces_of a ++ pieces_of b ++ pieces_of c) (rw (e.outs-Slice a b c) (tt, tt)) (p.slice_inside a b c)
-      (both (pieces_of a ++ pieces_of b) (pieces_of c) (both (pieces_of a) (pieces_of b) (expr_sourced f' a sa) (expr_sourced g b sb)) (expr_sourced h c sc))
-  expr_sourced f x (Spells.tab {x = y} {f = f'} {a = a} ok sa) = form_sourced (e.Tab y a) ([]) (pieces_of a) (rw (e.outs-Tab y a) (tt, tt)) (p.tab_inside y a) (expr_sourced f' a sa)
-  expr_sourced f x (Spells.choice {f = f'} {g = g} {h = h} {c = a} {a = b} {b = c} sa sb sc) = form_sourced (e.If a b c) [] (pieces_of a ++ pieces_of b ++ pieces_of c) (rw (e.outs-If a b c) (tt, tt)) (p.choice_inside a b c)
-      (both (pieces_of a ++ pieces_of b) (pieces_of c) (both (pieces_of a) (pieces_of b) (expr_sourced f' a sa) (expr_sourced g b sb)) (expr_sourced h c sc))
+  expr_sourced f x (Spells.var {x = y} ok) = form_sourced x (Expr-F.Var y) (e.outs-Var y) (tt, tt) tt tt
+  expr_sourced f x Spells.unit = form_sourced x Expr-F.Unit e.outs-Unit (tt, tt) tt tt
+  expr_sourced f x (Spells.bool {b = b}) = form_sourced x (Expr-F.Bool b) (e.outs-Bool b) (tt, tt) tt tt
+  expr_sourced f x (Spells.num {i = i} {n = n} ok) = form_sourced x (Expr-F.Num i n) (e.outs-Num i n) (tt, tt) (typed (t.Int i ∷ [])) tt
+  expr_sourced f x (Spells.bin {op = o} {i = i} {f = f'} {g = g} {a = a} {b = b} sa sb) =
+      form_sourced x (Expr-F.Bin o i a b) (e.outs-Bin o i a b) (tt, tt) (typed (t.Int i ∷ [])) (expr_sourced f' a sa, (expr_sourced g b sb, tt))
+  expr_sourced f x (Spells.shift {left = left} {i = i} {f = f'} {g = g} {a = a} {b = b} sa sb) =
+      form_sourced x (Expr-F.Shift left i a b) (e.outs-Shift left i a b) (tt, tt) (typed (t.Int i ∷ [])) (expr_sourced f' a sa, (expr_sourced g b sb, tt))
+  expr_sourced f x (Spells.cmp {op = o} {i = i} {f = f'} {g = g} {a = a} {b = b} sa sb) =
+      form_sourced x (Expr-F.Cmp o i a b) (e.outs-Cmp o i a b) (tt, tt) (typed (t.Int i ∷ [])) (expr_sourced f' a sa, (expr_sourced g b sb, tt))
+  expr_sourced f x (Spells.not {f = f'} {a = a} sa) = form_sourced x (Expr-F.Not a) (e.outs-Not a) (tt, tt) tt (expr_sourced f' a sa, tt)
+  expr_sourced f x (Spells.cast {i = i} {j = j} {f = f'} {a = a} sa) =
+      form_sourced x (Expr-F.Cast i j a) (e.outs-Cast i j a) (tt, tt) (typed (t.Int i ∷ t.Int j ∷ [])) (expr_sourced f' a sa, tt)
+  expr_sourced f x (Spells.hide {i = i} {f = f'} {a = a} sa) =
+      form_sourced x (Expr-F.Hide i a) (e.outs-Hide i a) (tt, tt) (typed (t.Int i ∷ [])) (expr_sourced f' a sa, tt)
+  expr_sourced f x (Spells.make {x = y} {fs = fs} {bs = bs} {es = es} ok ts ss) =
+      form_sourced x (Expr-F.Make y bs es) (e.outs-Make y bs es) (tt, tt) (typed bs) (all_sourced fs es ss)
+  expr_sourced f x (Spells.get {x = y} {f = f'} {a = a} ok sa) = form_sourced x (Expr-F.Get y a) (e.outs-Get y a) (tt, tt) tt (expr_sourced f' a sa, tt)
+  expr_sourced f x (Spells.con {x = y} {fs = fs} {bs = bs} {es = es} ok ts ss) =
+      form_sourced x (Expr-F.Con y bs es) (e.outs-Con y bs es) (tt, tt) (typed bs) (all_sourced fs es ss)
+  expr_sourced f x (Spells.read {f = f'} {g = g} {a = a} {b = b} sa sb) =
+      form_sourced x (Expr-F.Read a b) (e.outs-Read a b) (tt, tt) tt (expr_sourced f' a sa, (expr_sourced g b sb, tt))
+  expr_sourced f x (Spells.write {f = f'} {g = g} {h = h} {a = a} {b = b} {c = c} sa sb sc) =
+      form_sourced x (Expr-F.Write a b c) (e.outs-Write a b c) (tt, tt) tt (expr_sourced f' a sa, (expr_sourced g b sb, (expr_sourced h c sc, tt)))
+  expr_sourced f x (Spells.slice {f = f'} {g = g} {h = h} {a = a} {b = b} {c = c} sa sb sc) =
+      form_sourced x (Expr-F.Slice a b c) (e.outs-Slice a b c) (tt, tt) tt (expr_sourced f' a sa, (expr_sourced g b sb, (expr_sourced h c sc, tt)))
+  expr_sourced f x (Spells.tab {x = y} {f = f'} {a = a} ok sa) = form_sourced x (Expr-F.Tab y a) (e.outs-Tab y a) (tt, tt) tt (expr_sourced f' a sa, tt)
+  expr_sourced f x (Spells.choice {f = f'} {g = g} {h = h} {c = a} {a = b} {b = c} sa sb sc) =
+      form_sourced x (Expr-F.If a b c) (e.outs-If a b c) (tt, tt) tt (expr_sourced f' a sa, (expr_sourced g b sb, (expr_sourced h c sc, tt)))
   expr_sourced f x (Spells.match {f = f'} {g = g} {gs = gs} {a = a} {x = y} {xs = ys} sa sy sys) =
-      form_sourced (e.Match a (y ∷ ys)) [] (pieces_of a ++ in_arms (y ∷ ys)) (rw (e.outs-Match a (y ∷ ys)) (tt, tt)) (p.match_inside a (y ∷ ys))
-      (both (pieces_of a) (in_arms (y ∷ ys)) (expr_sourced f' a sa) (both (inside_arm y) (in_arms ys) (arm_sourced g y sy) (arms_sourced gs ys sys)))
+      form_sourced x (Expr-F.Match a (y ∷ ys)) (e.outs-Match a (y ∷ ys)) (tt, tt) tt (expr_sourced f' a sa, (arm_sourced g y sy, arms_sourced gs ys sys))
   expr_sourced f x (Spells.do_ {f = f'} {g = g} {fs = fs} {x = y} {xs = ys} {a = a} sy sys sa) =
-      form_sourced (e.Do (y ∷ ys) a) [] (in_items (y ∷ ys) ++ pieces_of a) (rw (e.outs-Do (y ∷ ys) a) (tt, tt)) (p.block_inside (y ∷ ys) a)
-      (both (in_items (y ∷ ys)) (pieces_of a) (both (inside_item y) (in_items ys) (item_sourced f' y sy) (items_sourced fs ys sys)) (expr_sourced g a sa))
-  expr_sourced f x (Spells.frame {f = f'} {a = a} sa) = form_sourced (e.Frame [] a) (map (λ (s : Slot). s.ty) []) (pieces_of a) (rw (e.outs-Frame [] a) (tt, refl)) (p.frame_inside [] a) (expr_sourced f' a sa)
-  expr_sourced f x (Spells.alloc {h = h} {a = b} {n = n} {b = a} st sl sa) = form_sourced (e.Alloc b n a) (b ∷ []) (pieces_of a) (rw (e.outs-Alloc b n a) (tt, tt)) (p.alloc_inside b n a) (expr_sourced h a sa)
-  expr_sourced f x (Spells.while {f = f'} {g = g} {c = a} {a = b} sa sb) = form_sourced (e.While a b) ([]) (pieces_of a ++ pieces_of b) (rw (e.outs-While a b) (tt, tt)) (p.while_inside a b)
-      (both (pieces_of a) (pieces_of b) (expr_sourced f' a sa) (expr_sourced g b sb))
+      form_sourced x (Expr-F.Do (y ∷ ys) a) (e.outs-Do (y ∷ ys) a) (tt, tt) tt
+      (hold_last IsSource (map Part.item (y ∷ ys)) a (item_sourced f' y sy, items_sourced fs ys sys) (expr_sourced g a sa))
+  expr_sourced f x (Spells.frame {f = f'} {a = a} sa) = form_sourced x (Expr-F.Frame [] a) (e.outs-Frame [] a) (tt, refl) tt (expr_sourced f' a sa, tt)
+  expr_sourced f x (Spells.alloc {h = h} {a = b} {n = n} {b = a} st sl sa) =
+      form_sourced x (Expr-F.Alloc b n a) (e.outs-Alloc b n a) (tt, tt) (typed (b ∷ [])) (expr_sourced h a sa, tt)
+  expr_sourced f x (Spells.while {f = f'} {g = g} {c = a} {a = b} sa sb) =
+      form_sourced x (Expr-F.While a b) (e.outs-While a b) (tt, tt) tt (expr_sourced f' a sa, (expr_sourced g b sb, tt))
   expr_sourced f x (Spells.for {x = y} {f = f'} {g = g} {h = h} {a = a} {b = b} {c = c} ok sa sb sc) =
-      form_sourced (e.For y a b c) [] (pieces_of a ++ pieces_of b ++ Bound y ∷ pieces_of c) (rw (e.outs-For y a b c) (tt, tt)) (p.for_inside y a b c)
-      (both (pieces_of a ++ pieces_of b) (Bound y ∷ pieces_of c) (both (pieces_of a) (pieces_of b) (expr_sourced f' a sa) (expr_sourced g b sb)) (ok, expr_sourced h c sc))
-  expr_sourced f x (Spells.call {x = y} {fs = fs} {bs = bs} {es = es} ok ts ss) = form_sourced (e.Call y bs es) bs (in_values es) (rw (e.outs-Call y bs es) (tt, tt)) (p.call_inside y bs es) (all_sourced fs es ss)
+      form_sourced x (Expr-F.For y a b c) (e.outs-For y a b c) (tt, tt) (ok, tt) (expr_sourced f' a sa, (expr_sourced g b sb, (expr_sourced h c sc, tt)))
+  expr_sourced f x (Spells.call {x = y} {fs = fs} {bs = bs} {es = es} ok ts ss) =
+      form_sourced x (Expr-F.Call y bs es) (e.outs-Call y bs es) (tt, tt) (typed bs) (all_sourced fs es ss)
 
-  all_sourced : (fs : List Form) (es : List Expr) → SpellsAll fs es → Sourced (in_values es)
+  all_sourced : (fs : List Form) (es : List Expr) → SpellsAll fs es → SourcedIn (map Part.expr es)
   all_sourced fs es SpellsAll.none = tt
-  all_sourced fs es (SpellsAll.one {f = f} {fs = gs} {a = a} {bs = more} sa ss) = both (pieces_of a) (in_values more) (expr_sourced f a sa) (all_sourced gs more ss)
+  all_sourced fs es (SpellsAll.one {f = f} {fs = gs} {a = a} {bs = more} sa ss) = (expr_sourced f a sa, all_sourced gs more ss)
 
   arm_sourced : (f : Form) (x : Arm) → SpellsArm f x → Sourced (inside_arm x)
   arm_sourced f x (SpellsArm.arm {f = f'} {g = g} {a = q} {b = a} sq sa) =
-      subst Sourced (sym (p.arm_inside q a)) (both (pieces_of_pat q) (pieces_of a) (pat_sourced f' q sq) (expr_sourced g a sa))
+      subst Sourced (sym (arm_inside q a)) (both (pieces_of_pat q) (pieces_of a) (pat_sourced f' q sq) (expr_sourced g a sa))
 
-  arms_sourced : (fs : List Form) (xs : List Arm) → SpellsArms fs xs → Sourced (in_arms xs)
+  arms_sourced : (fs : List Form) (xs : List Arm) → SpellsArms fs xs → SourcedIn (map Part.arm xs)
   arms_sourced fs xs SpellsArms.no_arms = tt
-  arms_sourced fs xs (SpellsArms.an_arm {f = f} {fs = gs} {a = x} {bs = more} sx ss) = both (inside_arm x) (in_arms more) (arm_sourced f x sx) (arms_sourced gs more ss)
+  arms_sourced fs xs (SpellsArms.an_arm {f = f} {fs = gs} {a = x} {bs = more} sx ss) = (arm_sourced f x sx, arms_sourced gs more ss)
 
   item_sourced : (f : Form) (x : Item) → SpellsItem f x → Sourced (inside_item x)
-  item_sourced f x (SpellsItem.let_ {x = y} {g = g} {a = b} {b = a} ok st sa) = subst Sourced (sym (p.bound_inside y b a))
+  item_sourced f x (SpellsItem.let_ {x = y} {g = g} {a = b} {b = a} ok st sa) = subst Sourced (sym (let_inside y b a))
       (both (pieces_of_ty b ++ pieces_of a) (Bound y ∷ []) (both (pieces_of_ty b) (pieces_of a) (tt, ty_sourced b) (expr_sourced g a sa)) (ok, tt))
-  item_sourced f x (SpellsItem.run {a = a} sa) = subst Sourced (sym (p.ran_inside a)) (expr_sourced f a sa)
+  item_sourced f x (SpellsItem.run {a = a} sa) = subst Sourced (sym (run_inside a)) (expr_sourced f a sa)
 
-  items_sourced : (fs : List Form) (xs : List Item) → SpellsItems fs xs → Sourced (in_items xs)
+  items_sourced : (fs : List Form) (xs : List Item) → SpellsItems fs xs → SourcedIn (map Part.item xs)
   items_sourced fs xs SpellsItems.no_items = tt
-  items_sourced fs xs (SpellsItems.an_item {f = f} {fs = gs} {a = x} {bs = more} sx ss) = both (inside_item x) (in_items more) (item_sourced f x sx) (items_sourced gs more ss)
+  items_sourced fs xs (SpellsItems.an_item {f = f} {fs = gs} {a = x} {bs = more} sx ss) = (item_sourced f x sx, items_sourced gs more ss)
 
 -- ---- definitions
 
@@ -194,28 +206,28 @@ defs_sourced : (fs : List Form) (ds : List Def) → Each SpellsDef fs ds → Sou
 defs_sourced fs ds Each.none = tt
 defs_sourced fs ds (Each.one {x = f} {y = def} {xs = gs} {ys = more} sx ss) = both (pieces_of_def def) (pieces_in more) (def_sourced f def sx) (defs_sourced gs more ss)
 
--- what holds of the forms of a spelled file's pieces
-form_so : (P : Made → Type 0) → ((f : Made) → IsSourceForm f → P f) → (x : Piece) → IsSource x → FormIn P x
-form_so P so (Value x) h = so (out-Expr x) h
-form_so P so (Test x) h = absurd h
-form_so P so (Pattern q) h = tt
-form_so P so (Written a) h = tt
-form_so P so (Bound x) h = tt
+-- what holds of the roles in a spelled file's pieces
+role_so : (P : Role → Type 0) → ((r : Role) → IsSourceRole r → P r) → (x : Piece) → IsSource x → RoleIn P x
+role_so P so (Value x) h = so (role_of x) h
+role_so P so (Test x) h = absurd h
+role_so P so (Pattern q) h = tt
+role_so P so (Written a) h = tt
+role_so P so (Bound x) h = tt
 
 module _ (text : List ℕ) (file : SourceFile) (s : SpellsFile text file) where
   pub all_source : AllByRecursion IsSource (pieces_in file.defs)
   all_source = defs_sourced s.forms file.defs s.spelled
 
-  pub no_cases : EachForm HasNoCases file.defs
-  no_cases = each_so IsSource (FormIn HasNoCases) (pieces_in file.defs) (form_so HasNoCases (λ f h. h.0)) all_source
+  pub no_cases : EachRole HasNoCases file.defs
+  no_cases = each_so IsSource (RoleIn HasNoCases) (pieces_in file.defs) (role_so HasNoCases (λ r h. h.0)) all_source
 
-  pub no_slots : EachForm HasNoSlots file.defs
-  no_slots = each_so IsSource (FormIn HasNoSlots) (pieces_in file.defs) (form_so HasNoSlots (λ f h. h.1)) all_source
+  pub no_slots : EachRole HasNoSlots file.defs
+  no_slots = each_so IsSource (RoleIn HasNoSlots) (pieces_in file.defs) (role_so HasNoSlots (λ r h. h.1)) all_source
 
-  pub spelled_can_run : EachForm (CanRun file.defs) file.defs
+  pub spelled_can_run : EachRole (CanRun file.defs) file.defs
   spelled_can_run = source_can_run file.defs no_slots no_cases
 
-pub checked_can_run : (file : SourceFile) → IsTypedFile file → EachForm (CanRun file.defs) file.defs
+pub checked_can_run : (file : SourceFile) → IsTypedFile file → EachRole (CanRun file.defs) file.defs
 checked_can_run file c = spelled_can_run c.spelled.text file c.spelled.spells
 
 pub checked_runs : CheckedFilesRun

@@ -13,7 +13,7 @@ use Rattle.krml_syntax.specs.declared.tree.Ty.{Ty, out-Ty}
 use Rattle.krml_syntax.specs.declared.tree.Ty.TheOpen.{Ty-F}
 use Rattle.krml_syntax.specs.declared.tree.SourceFile.{SourceFile}
 use Rattle.krml_ast.specs.Names.{Signature, fun_named}
-use Rattle.krml_ast.specs.FileTypes.{EachForm, IsTypedFile}
+use Rattle.krml_ast.specs.FileTypes.{EachRole, IsTypedFile}
 use Rattle.krml_ast.specs.WellTyped.{AreWellTyped}
 use Rattle.krml_meaning.specs.Meaning.{ArgumentsFit, source_run}
 use Rattle.krml_meaning.specs.Sound.{CanRun}
@@ -56,7 +56,7 @@ pub record EndsInRange (file : SourceFile) (entry : List ℕ) (args : Arguments)
 
 -- Runs of well typed files leave numbers that fit.
 abbrev pub TypedFilesEnd : Type 0
-TypedFilesEnd = (file : SourceFile) (entry : List ℕ) (args : Arguments) (bound : Bound) → AreWellTyped file.defs → EachForm (CanRun file.defs) file.defs
+TypedFilesEnd = (file : SourceFile) (entry : List ℕ) (args : Arguments) (bound : Bound) → AreWellTyped file.defs → EachRole (CanRun file.defs) file.defs
     → ArgumentsFit file entry args → EndsInRange file entry args bound
 
 -- So do those of a file that a text spells, once its types are checked.

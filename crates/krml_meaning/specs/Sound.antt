@@ -6,12 +6,12 @@ use Rattle.krml_trace.specs.declared.bound.Bound.{Bound}
 use Rattle.krml_trace.specs.declared.outcome.Outcome.{Outcome}
 use Rattle.krml_trace.specs.declared.outcome.Outcome.TheVariants as outcome
 use Rattle.krml_syntax.specs.declared.tree.Ty.{Ty}
-use Rattle.krml_syntax.specs.declared.tree.Expr.TheOpen.{Expr-F}
 use Rattle.krml_syntax.specs.declared.tree.Def.{Def}
 use Rattle.krml_syntax.specs.declared.tree.SourceFile.{SourceFile}
+use Rattle.krml_syntax.specs.Shape.{Role}
 use Rattle.krml_ast.specs.Names.{Signature, fun_named}
 use Rattle.krml_ast.specs.IsType.{IsValue}
-use Rattle.krml_ast.specs.FileTypes.{Form, EachForm, HasSize, IsSlot, IsTypedFile, listed_vars}
+use Rattle.krml_ast.specs.FileTypes.{EachRole, HasSize, IsSlot, IsTypedFile, listed_vars}
 use Rattle.krml_ast.specs.WellTyped.{AreWellTyped}
 use Rattle.krml_meaning.specs.declared.value.Value.{Value}
 use Rattle.krml_meaning.specs.State.{Block, SourceState}
@@ -26,9 +26,9 @@ pub record Fine (defs : List Def) (m : List Block) (a : Ty) (x : Value) (s : Sou
 
 -- What a run takes of a form that no text spells, beyond its types: the slots that a frame lists are slots of the file, and
 -- arguments of constructors are asked for only where there are no type variables, and no sum without constructors.
-abbrev pub CanRun : List Def → Form → Type 0
-CanRun defs (Expr-F.Frame slots a) = AllByRecursion (IsSlot defs) slots
-CanRun defs (Expr-F.Part x j a) = (flat_map listed_vars defs ≡ []) × AllByRecursion HasSize defs
+abbrev pub CanRun : List Def → Role → Type 0
+CanRun defs (Role.frame slots) = AllByRecursion (IsSlot defs) slots
+CanRun defs Role.part = (flat_map listed_vars defs ≡ []) × AllByRecursion HasSize defs
 CanRun defs _ = Unit {0}
 
 -- A run that ended so is one of a function with such a result: it is done, with a result exactly where that is a value, or
@@ -49,7 +49,7 @@ pub record RunsWell (file : SourceFile) (entry : List ℕ) (args : Arguments) (b
 
 -- Runs of well typed files are sound: on arguments that fit, no run is Undefined, and none is Trapped.
 abbrev pub TypedFilesRun : Type 0
-TypedFilesRun = (file : SourceFile) (entry : List ℕ) (args : Arguments) (bound : Bound) → AreWellTyped file.defs → EachForm (CanRun file.defs) file.defs
+TypedFilesRun = (file : SourceFile) (entry : List ℕ) (args : Arguments) (bound : Bound) → AreWellTyped file.defs → EachRole (CanRun file.defs) file.defs
     → ArgumentsFit file entry args → RunsWell file entry args bound
 
 -- So are those of a file that a text spells, once its types are checked.

@@ -1,6 +1,7 @@
 -- The shape of expressions: the layer of an expression with other parts, its parts in the order of a text, and the role of a form.
 use Rattle.std.specs.Prelude.{List, [], ◌∷◌, ◌++◌, map}
 use Rattle.std.specs.List.{AllByRecursion}
+use Rattle.krml_syntax.specs.declared.tree.Ty.{Ty}
 use Rattle.krml_syntax.specs.declared.tree.Slot.{Slot}
 use Rattle.krml_syntax.specs.declared.tree.Expr.{map-Expr}
 use Rattle.krml_syntax.specs.declared.tree.Expr.TheOpen.{Expr-F, Item-F, Arm-F, Case-F}
@@ -78,6 +79,16 @@ module _ {E I A C : Type 0} where
 
   abbrev pub parts_of_case : Case-F E I A C → List (Part E I A C)
   parts_of_case y = map Part.expr y.tests ++ Part.expr y.body ∷ []
+
+-- ---- types
+
+-- the type arguments at which a form stands
+module _ {E I A C : Type 0} where
+  abbrev pub type_arguments : Expr-F E I A C → List Ty
+  type_arguments (Expr-F.Make x args es) = args
+  type_arguments (Expr-F.Con x args es) = args
+  type_arguments (Expr-F.Call x args es) = args
+  type_arguments _ = []
 
 -- ---- what holds of each part
 

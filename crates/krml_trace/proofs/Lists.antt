@@ -48,3 +48,7 @@ module _ {A : Type 0} (P : A → Type 0) where
 pub each_so : {A : Type 0} (P Q : A → Type 0) (xs : List A) → ((x : A) → P x → Q x) → AllByRecursion P xs → AllByRecursion Q xs
 each_so P Q [] f h = tt
 each_so P Q (x ∷ xs) f h = (f x h.0, each_so P Q xs f h.1)
+
+pub each_both : {A : Type 0} (P Q R : A → Type 0) (xs : List A) → ((x : A) → P x → Q x → R x) → AllByRecursion P xs → AllByRecursion Q xs → AllByRecursion R xs
+each_both P Q R [] f h k = tt
+each_both P Q R (x ∷ xs) f h k = (f x h.0 k.0, each_both P Q R xs f h.1 k.1)
