@@ -1,5 +1,10 @@
--- Layers whose parts carry what holds of them, as the induction over expressions has them.
+-- Layers whose parts carry what holds of them, as the kit's induction over expressions has them, and the induction over parts.
 use Rattle.std.proofs.Common.{◌≡◌, List, [], ◌∷◌, ◌++◌, map, refl, sym, ap, subst}
+use Rattle.krml_syntax.specs.declared.tree.Item.{Item, roll-Item}
+use Rattle.krml_syntax.specs.declared.tree.Arm.{Arm, roll-Arm}
+use Rattle.krml_syntax.specs.declared.tree.Case.{Case, roll-Case}
+use Rattle.krml_syntax.specs.declared.tree.Expr.{Expr, roll-Expr}
+use Rattle.krml_syntax.specs.declared.tree.Expr.TheFolds.{ind-Expr}
 use Rattle.krml_syntax.specs.declared.tree.Expr.TheOpen.{Expr-F, Item-F, Arm-F, Case-F}
 use Rattle.krml_syntax.specs.Shape.{map_layer, map_item, map_arm, map_case, Part, map_part, parts_of, parts_of_item, parts_of_arm, parts_of_case, OfPart, OfParts}
 use Rattle.krml_syntax.proofs.Shape.{parts_mapped, item_parts_mapped, case_parts_mapped}
@@ -135,3 +140,18 @@ module _ {E I A C : Type 0} (R S T : E → Type 0) (R' S' T' : I → Type 0) (R'
   pub both_case : (o : Case-F E I A C) → CaseWith R R' R'' R''' o → CaseWith S S' S'' S''' o → CaseWith T T' T'' T''' o
   both_case o w w' = case_attached T T' T'' T''' o
       (both_parts (parts_of_case o) (of_case_attached R R' R'' R''' o w) (of_case_attached S S' S'' S''' o w'))
+
+-- ---- induction
+
+-- What holds of an expression where it holds of its parts, holds of each expression.
+module _ (P : Expr → Type 0) (P' : Item → Type 0) (P'' : Arm → Type 0) (P''' : Case → Type 0) where
+  pub by_parts : ((o : Expr-F Expr Item Arm Case) → OfParts P P' P'' P''' (parts_of o) → P (roll-Expr o))
+      → ((o : Item-F Expr Item Arm Case) → OfParts P P' P'' P''' (parts_of_item o) → P' (roll-Item o))
+      → ((o : Arm-F Expr Item Arm Case) → OfParts P P' P'' P''' (parts_of_arm o) → P'' (roll-Arm o))
+      → ((o : Case-F Expr Item Arm Case) → OfParts P P' P'' P''' (parts_of_case o) → P''' (roll-Case o))
+      → (x : Expr) → P x
+  by_parts step step' step'' step''' = ind-Expr P P' P'' P'''
+      (λ o y eq. step o (of_attached P P' P'' P''' o (y, eq)))
+      (λ o y eq. step' o (of_item_attached P P' P'' P''' o (y, eq)))
+      (λ o y eq. step'' o (of_arm_attached P P' P'' P''' o (y, eq)))
+      (λ o y eq. step''' o (of_case_attached P P' P'' P''' o (y, eq)))
