@@ -1,3 +1,5 @@
 pub mod Alike
 pub mod Forms
+pub mod Numbered
+pub mod Passes
 pub mod Values

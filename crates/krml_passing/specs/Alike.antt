@@ -1,10 +1,12 @@
 -- Runs of the source side by side, before a pass and after it: the second follows the first, in the image of its state.
 -- What else is said of the values and the memory where a run goes on, is a relation that the pass chooses.
-use Rattle.std.specs.Prelude.{◌≡◌, List, map}
+use Rattle.std.specs.Prelude.{◌≡◌, ℕ, List, map}
 use Rattle.krml_trace.specs.Follows.{Shares, Never, Follows}
+use Rattle.krml_syntax.specs.declared.tree.Slot.{Slot}
 use Rattle.krml_ast.specs.declared.event.SourceEvent.{SourceEvent}
 use Rattle.krml_meaning.specs.declared.value.Value.{Value}
 use Rattle.krml_meaning.specs.State.{Block, SourceState, SourceRan, Env, Sem}
+use Rattle.krml_meaning.specs.Numbered.{Numbered}
 use Rattle.krml_meaning.specs.Meaning as src
 use Rattle.krml_passing.specs.Images.{Images, memory_image, events_image, state_image}
 
@@ -68,3 +70,9 @@ module _ (im : Images) where
   -- What stands in a `do` leads to scopes that stand to one another as J says.
   pub record Leads (I J : Scopes) (step step' : src.Step) : Type 0 where
     pub run : (env env' : Env) (s : SourceState) → I env env' s.memory → Alike im J (step env s) (step' env' (state_image im s))
+
+-- What something means stands so to what the other means, wherever its slots are numbered from; the slots become others, and
+-- are as many.
+pub record SameOf (slot : Slot → Slot) {A B : Type 0} (R : A → B → Type 0) (n : Numbered A) (n' : Numbered B) : Type 0 where
+  pub slots : n'.slots ≡ map slot n.slots
+  pub from : (k : ℕ) → R (n.from k) (n'.from k)
