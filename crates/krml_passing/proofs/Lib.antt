@@ -2,4 +2,5 @@ pub mod Alike
 pub mod Forms
 pub mod Numbered
 pub mod Passes
+pub mod Renamed
 pub mod Values

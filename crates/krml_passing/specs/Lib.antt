@@ -1,3 +1,4 @@
 pub mod Alike
 pub mod Images
 pub mod Pass
+pub mod Renaming
