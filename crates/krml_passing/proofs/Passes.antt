@@ -16,7 +16,7 @@ use Rattle.krml_meaning.specs.Numbered.{Numbered}
 use Rattle.krml_meaning.specs.Meaning as src
 use Rattle.krml_meaning.proofs.Evals as old
 use Rattle.krml_passing.specs.Alike.{SameOf}
-use Rattle.krml_passing.specs.Pass.{Layer, Pass, passed, item_passed, arm_passed, case_passed}
+use Rattle.krml_rename.specs.Pass.{Layer, Pass, passed, item_passed, arm_passed, case_passed}
 use Rattle.krml_passing.proofs.Numbered.{moved}
 
 -- What a pass keeps of expressions is W, and W', W'' and W''' of what stands in a `do`, of branches and of cases.

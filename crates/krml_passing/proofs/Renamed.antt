@@ -25,8 +25,8 @@ use Rattle.krml_meaning.specs.Meaning as src
 use Rattle.krml_meaning.proofs.Evals as old
 use Rattle.krml_passing.specs.Images.{Images, vars_image, slot_image, state_image}
 use Rattle.krml_passing.specs.Alike.{Alike, Scopes, any, IsImage, Same, Does, DoAll, Leads, SameOf}
-use Rattle.krml_passing.specs.Pass.{Layer, Pass, passed, item_passed, arm_passed, case_passed}
-use Rattle.krml_passing.specs.Renaming.{Renaming, slot_renamed, renamed, item_renamed, arm_renamed, renaming, expr_renamed}
+use Rattle.krml_rename.specs.Pass.{Layer, Pass, passed, item_passed, arm_passed, case_passed}
+use Rattle.krml_rename.specs.Renaming.{Renaming, slot_renamed, renamed, item_renamed, arm_renamed, renaming, expr_renamed}
 use Rattle.krml_passing.proofs.Alike.{alike_so}
 use Rattle.krml_passing.proofs.Values as is
 use Rattle.krml_passing.proofs.Forms as form

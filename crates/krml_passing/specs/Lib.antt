@@ -1,4 +1,2 @@
 pub mod Alike
 pub mod Images
-pub mod Pass
-pub mod Renaming

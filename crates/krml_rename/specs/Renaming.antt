@@ -8,7 +8,7 @@ use Rattle.krml_syntax.specs.declared.tree.Case.{Case, roll-Case}
 use Rattle.krml_syntax.specs.declared.tree.Item.{Item, roll-Item}
 use Rattle.krml_syntax.specs.declared.tree.Expr.{Expr, roll-Expr}
 use Rattle.krml_syntax.specs.declared.tree.Expr.TheOpen.{Expr-F, Item-F, Arm-F}
-use Rattle.krml_passing.specs.Pass.{Pass, passed}
+use Rattle.krml_rename.specs.Pass.{Pass, passed}
 
 -- What names, types and patterns become where they stand in an expression. A struct, a constructor and a function stand at
 -- type arguments, and what they become may depend on those; a test or a part of a constructor has none.
@@ -58,3 +58,16 @@ module _ (n : Renaming) where
 
   abbrev pub expr_renamed : Expr → Expr
   expr_renamed = passed renaming
+
+-- each name and each type stays
+abbrev pub itself : Renaming
+itself = record {
+  struct = λ x args. (x, args);
+  con = λ x args. (x, args);
+  fun = λ x args. (x, args);
+  tag = λ x. x;
+  table = λ x. x;
+  field = λ y. y;
+  ty = λ a. a;
+  pat = λ q. q;
+}
