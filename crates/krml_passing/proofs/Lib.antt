@@ -1,5 +1,6 @@
 pub mod Alike
 pub mod Forms
+pub mod Lookups
 pub mod Numbered
 pub mod Passes
 pub mod Renamed

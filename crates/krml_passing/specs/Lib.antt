@@ -1,2 +1,4 @@
 pub mod Alike
 pub mod Images
+pub mod Naming
+pub mod RunsAs

@@ -1,0 +1,125 @@
+-- Other names for the definitions of a file, and a file under them.
+use Rattle.std.specs.Prelude.{◌≡◌, ℕ, Bool, true, List, map}
+use Rattle.std.specs.Str.{bytes_eq}
+use Rattle.krml_syntax.specs.declared.tree.Ty.{Ty, out-Ty}
+use Rattle.krml_syntax.specs.declared.tree.Ty.TheOpen.{Ty-F}
+use Rattle.krml_syntax.specs.declared.tree.Field.{Field}
+use Rattle.krml_syntax.specs.declared.tree.Con.{Con}
+use Rattle.krml_syntax.specs.declared.tree.Pat.{Pat, out-Pat}
+use Rattle.krml_syntax.specs.declared.tree.Pat.TheOpen.{Pat-F}
+use Rattle.krml_syntax.specs.declared.tree.Expr.{Expr}
+use Rattle.krml_syntax.specs.declared.tree.Def.{Def}
+use Rattle.krml_syntax.specs.declared.tree.Def.TheVariants as d
+use Rattle.krml_syntax.specs.declared.tree.SourceFile.{SourceFile}
+use Rattle.krml_meaning.specs.declared.value.Value.{Value, out-Value}
+use Rattle.krml_meaning.specs.State.{Env}
+use Rattle.krml_meaning.specs.Meaning.{Function}
+use Rattle.krml_passing.specs.Images.{Images, value_under, vars_image}
+use Rattle.krml_passing.specs.Alike.{Scopes}
+use Rattle.krml_rename.specs.Renaming.{Renaming, expr_renamed}
+
+-- what a type is made of, where its parts become others and structs and sums get other names
+abbrev pub ty_under : (Ty → Ty) → (List ℕ → List ℕ) → Ty-F Ty → Ty-F Ty
+ty_under ty named Ty-F.Bool = Ty-F.Bool
+ty_under ty named Ty-F.Unit = Ty-F.Unit
+ty_under ty named (Ty-F.Int i) = Ty-F.Int i
+ty_under ty named (Ty-F.Buf a) = Ty-F.Buf (ty a)
+ty_under ty named (Ty-F.Var x) = Ty-F.Var x
+ty_under ty named (Ty-F.Named x args) = Ty-F.Named (named x) (map ty args)
+
+-- what a pattern is made of, where its parts become others and constructors and structs get other names
+abbrev pub pat_under : (Pat → Pat) → (List ℕ → List ℕ) → (List ℕ → List ℕ) → Pat-F Pat → Pat-F Pat
+pat_under pat con named Pat-F.Any = Pat-F.Any
+pat_under pat con named (Pat-F.Bind x) = Pat-F.Bind x
+pat_under pat con named (Pat-F.Bool b) = Pat-F.Bool b
+pat_under pat con named (Pat-F.Num i n) = Pat-F.Num i n
+pat_under pat con named (Pat-F.Con x qs) = Pat-F.Con (con x) (map pat qs)
+pat_under pat con named (Pat-F.Make x qs) = Pat-F.Make (named x) (map pat qs)
+
+-- different names stay different
+abbrev pub TellsApart : (List ℕ → List ℕ) → Type 0
+TellsApart name = (x y : List ℕ) → bytes_eq (name x) (name y) ≡ bytes_eq x y
+
+-- New names of the five kinds: of structs and sums, of constructors, of functions, of tables and of fields. Each kind is told
+-- apart as before. Types, patterns and values are those under the new names.
+pub record Naming : Type 0 where
+  pub named : List ℕ → List ℕ
+  pub con : List ℕ → List ℕ
+  pub fun : List ℕ → List ℕ
+  pub table : List ℕ → List ℕ
+  pub field : List ℕ → List ℕ
+  pub named_apart : TellsApart named
+  pub con_apart : TellsApart con
+  pub fun_apart : TellsApart fun
+  pub table_apart : TellsApart table
+  pub field_apart : TellsApart field
+  pub ty : Ty → Ty
+  pub pat : Pat → Pat
+  pub value : Value → Value
+  pub out_ty : (a : Ty) → out-Ty (ty a) ≡ ty_under ty named (out-Ty a)
+  pub out_pat : (q : Pat) → out-Pat (pat q) ≡ pat_under pat con named (out-Pat q)
+  pub out_value : (x : Value) → out-Value (value x) ≡ value_under value field (out-Value x)
+
+module _ (n : Naming) where
+  -- every end is kept, and tables stay in their places
+  abbrev pub images_of : Images
+  images_of = record {
+    value = n.value;
+    field = n.field;
+    ty = n.ty;
+    place = λ k. k;
+    keeps = λ w. true;
+    out = n.out_value;
+    apart = n.field_apart;
+  }
+
+  abbrev pub renaming_of : Renaming
+  renaming_of = record {
+    struct = λ x args. (n.named x, map n.ty args);
+    con = λ x args. (n.con x, map n.ty args);
+    fun = λ x args. (n.fun x, map n.ty args);
+    tag = n.con;
+    table = n.table;
+    field = n.field;
+    ty = n.ty;
+    pat = n.pat;
+  }
+
+  -- ---- scopes
+
+  abbrev pub env_image : Env → Env
+  env_image env = record { vars = vars_image images_of env.vars; tvars = env.tvars; targs = map n.ty env.targs; base = env.base }
+
+  -- the second scope is the first under the new names
+  abbrev pub under_names : Scopes
+  under_names env env' m = env' ≡ env_image env
+
+  -- ---- files
+
+  abbrev pub field_under : Field → Field
+  field_under f = record { name = n.field f.name; ty = n.ty f.ty }
+
+  abbrev pub param_under : Field → Field
+  param_under f = record { name = f.name; ty = n.ty f.ty }
+
+  abbrev pub con_under : Con → Con
+  con_under c = record { name = n.con c.name; args = map n.ty c.args }
+
+  -- The bodies of functions become what a pass makes of them.
+  module _ (body : Expr → Expr) where
+    abbrev pub def_under : Def → Def
+    def_under (d.Struct x vars fields) = d.Struct (n.named x) vars (map field_under fields)
+    def_under (d.Sum x vars cons) = d.Sum (n.named x) vars (map con_under cons)
+    def_under (d.Table x i nums) = d.Table (n.table x) i nums
+    def_under (d.Fun x vars params result e) = d.Fun (n.fun x) vars (map param_under params) (n.ty result) (body e)
+    def_under (d.Entry x) = d.Entry (n.fun x)
+
+    abbrev pub file_under : SourceFile → SourceFile
+    file_under file = record { defs = map def_under file.defs }
+
+    abbrev pub function_under : Function → Function
+    function_under f = record { tvars = f.tvars; params = map param_under f.params; body = body f.body }
+
+  -- a file under the new names
+  abbrev pub file_renamed : SourceFile → SourceFile
+  file_renamed = file_under (expr_renamed renaming_of)
