@@ -3,5 +3,7 @@ pub mod Forms
 pub mod Lookups
 pub mod Numbered
 pub mod Passes
+pub mod Patterns
 pub mod Renamed
+pub mod RunsAs
 pub mod Values
