@@ -1,5 +1,5 @@
 -- Patterns and expressions under the new names, form by form.
-use Rattle.std.proofs.Common.{◌≡◌, ℕ, Bool, List, map, refl, ap, ◌∙◌}
+use Rattle.std.proofs.Common.{◌≡◌, ℕ, Bool, List, map, refl, sym, ap, ◌∙◌}
 use Rattle.krml_syntax.specs.declared.tree.IntTy.{IntTy}
 use Rattle.krml_syntax.specs.declared.tree.BinOp.{BinOp}
 use Rattle.krml_syntax.specs.declared.tree.CmpOp.{CmpOp}
@@ -12,11 +12,12 @@ use Rattle.krml_syntax.specs.declared.tree.Arm.{Arm, roll-Arm}
 use Rattle.krml_syntax.specs.declared.tree.Case.{Case, roll-Case}
 use Rattle.krml_syntax.specs.declared.tree.Item.{Item}
 use Rattle.krml_syntax.specs.declared.tree.Item.TheVariants as item
-use Rattle.krml_syntax.specs.declared.tree.Expr.{Expr, out-Expr, map-Expr}
+use Rattle.krml_syntax.specs.declared.tree.Expr.{Expr, out-Expr, roll-Expr}
 use Rattle.krml_syntax.specs.declared.tree.Expr.TheVariants as e
 use Rattle.krml_syntax.specs.declared.tree.Expr.TheOpen.{Expr-F}
+use Rattle.krml_syntax.specs.declared.tree.Expr.TheViews.{out-roll-Expr}
 use Rattle.krml_syntax.specs.declared.tree.Expr.TheFolds.{fold_out-Expr, fold_out-Item, fold-roll-Arm, fold-roll-Case}
-use Rattle.krml_ast.specs.FileTypes.{Form}
+use Rattle.krml_syntax.specs.Shape.{map_layer, parts_of}
 use Rattle.krml_bundle.specs.Emitted.{emitted_fun, emitted_type, emitted_table, emitted_field}
 use Rattle.krml_bundle.specs.Bundled.{ty_bundled, slot_bundled, level_pat, pat_bundled, level_expr, level_item, level_arm, level_case, expr_bundled, item_bundled, arm_bundled, case_bundled}
 
@@ -145,68 +146,59 @@ case_parts_bundled tests a = fold-roll-Case Expr Item Arm Case level_expr level_
 
 -- ---- one layer
 
--- a form with its parts under the new names
-abbrev pub form_bundled : Form → Form
-form_bundled (Expr-F.Var x) = Expr-F.Var x
-form_bundled Expr-F.Unit = Expr-F.Unit
-form_bundled (Expr-F.Bool b) = Expr-F.Bool b
-form_bundled (Expr-F.Num i n) = Expr-F.Num i n
-form_bundled (Expr-F.Bin o i a b) = Expr-F.Bin o i (expr_bundled a) (expr_bundled b)
-form_bundled (Expr-F.Shift left i a n) = Expr-F.Shift left i (expr_bundled a) (expr_bundled n)
-form_bundled (Expr-F.Cmp o i a b) = Expr-F.Cmp o i (expr_bundled a) (expr_bundled b)
-form_bundled (Expr-F.Not a) = Expr-F.Not (expr_bundled a)
-form_bundled (Expr-F.Cast i j a) = Expr-F.Cast i j (expr_bundled a)
-form_bundled (Expr-F.Hide i a) = Expr-F.Hide i (expr_bundled a)
-form_bundled (Expr-F.Make x args es) = Expr-F.Make (emitted_type x) (map ty_bundled args) (map expr_bundled es)
-form_bundled (Expr-F.Get y a) = Expr-F.Get (emitted_field y) (expr_bundled a)
-form_bundled (Expr-F.Con x args es) = Expr-F.Con x (map ty_bundled args) (map expr_bundled es)
-form_bundled (Expr-F.Read a i) = Expr-F.Read (expr_bundled a) (expr_bundled i)
-form_bundled (Expr-F.Write a i w) = Expr-F.Write (expr_bundled a) (expr_bundled i) (expr_bundled w)
-form_bundled (Expr-F.Slice a i n) = Expr-F.Slice (expr_bundled a) (expr_bundled i) (expr_bundled n)
-form_bundled (Expr-F.Tab x a) = Expr-F.Tab (emitted_table x) (expr_bundled a)
-form_bundled (Expr-F.If c a b) = Expr-F.If (expr_bundled c) (expr_bundled a) (expr_bundled b)
-form_bundled (Expr-F.Match a arms) = Expr-F.Match (expr_bundled a) (map arm_bundled arms)
-form_bundled (Expr-F.Do items a) = Expr-F.Do (map item_bundled items) (expr_bundled a)
-form_bundled (Expr-F.Frame slots a) = Expr-F.Frame (map slot_bundled slots) (expr_bundled a)
-form_bundled (Expr-F.Alloc b n a) = Expr-F.Alloc (ty_bundled b) n (expr_bundled a)
-form_bundled (Expr-F.While c a) = Expr-F.While (expr_bundled c) (expr_bundled a)
-form_bundled (Expr-F.For x a b c) = Expr-F.For x (expr_bundled a) (expr_bundled b) (expr_bundled c)
-form_bundled (Expr-F.Call x args es) = Expr-F.Call (emitted_fun x) (map ty_bundled args) (map expr_bundled es)
-form_bundled (Expr-F.Cases cases) = Expr-F.Cases (map case_bundled cases)
-form_bundled (Expr-F.TagIs x a) = Expr-F.TagIs x (expr_bundled a)
-form_bundled (Expr-F.Part x j a) = Expr-F.Part x j (expr_bundled a)
-form_bundled (Expr-F.Fill k a) = Expr-F.Fill k (expr_bundled a)
+-- a form under the new names, its parts left
+module _ {E I A C : Type 0} where
+  abbrev pub layer_bundled : Expr-F E I A C → Expr-F E I A C
+  layer_bundled (Expr-F.Make x args es) = Expr-F.Make (emitted_type x) (map ty_bundled args) es
+  layer_bundled (Expr-F.Get y a) = Expr-F.Get (emitted_field y) a
+  layer_bundled (Expr-F.Con x args es) = Expr-F.Con x (map ty_bundled args) es
+  layer_bundled (Expr-F.Tab x a) = Expr-F.Tab (emitted_table x) a
+  layer_bundled (Expr-F.Frame slots a) = Expr-F.Frame (map slot_bundled slots) a
+  layer_bundled (Expr-F.Alloc b n a) = Expr-F.Alloc (ty_bundled b) n a
+  layer_bundled (Expr-F.Call x args es) = Expr-F.Call (emitted_fun x) (map ty_bundled args) es
+  layer_bundled y = y
+
+  -- it has the same parts
+  pub same_parts : (y : Expr-F E I A C) → parts_of (layer_bundled y) ≡ parts_of y
+  same_parts (Expr-F.Var x) = refl
+  same_parts _ = refl
+
+-- with its parts under the new names
+abbrev pub form_bundled : Expr-F Expr Item Arm Case → Expr-F Expr Item Arm Case
+form_bundled o = layer_bundled (map_layer expr_bundled item_bundled arm_bundled case_bundled o)
+
+by_layer : (o : Expr-F Expr Item Arm Case) → level_expr o ≡ roll-Expr (layer_bundled o)
+by_layer (Expr-F.Var x) = sym (e.rolls-Var x)
+by_layer Expr-F.Unit = sym e.rolls-Unit
+by_layer (Expr-F.Bool b) = sym (e.rolls-Bool b)
+by_layer (Expr-F.Num i n) = sym (e.rolls-Num i n)
+by_layer (Expr-F.Bin o i a b) = sym (e.rolls-Bin o i a b)
+by_layer (Expr-F.Shift left i a n) = sym (e.rolls-Shift left i a n)
+by_layer (Expr-F.Cmp o i a b) = sym (e.rolls-Cmp o i a b)
+by_layer (Expr-F.Not a) = sym (e.rolls-Not a)
+by_layer (Expr-F.Cast i j a) = sym (e.rolls-Cast i j a)
+by_layer (Expr-F.Hide i a) = sym (e.rolls-Hide i a)
+by_layer (Expr-F.Make x args es) = sym (e.rolls-Make (emitted_type x) (map ty_bundled args) es)
+by_layer (Expr-F.Get y a) = sym (e.rolls-Get (emitted_field y) a)
+by_layer (Expr-F.Con x args es) = sym (e.rolls-Con x (map ty_bundled args) es)
+by_layer (Expr-F.Read a i) = sym (e.rolls-Read a i)
+by_layer (Expr-F.Write a i w) = sym (e.rolls-Write a i w)
+by_layer (Expr-F.Slice a i n) = sym (e.rolls-Slice a i n)
+by_layer (Expr-F.Tab x a) = sym (e.rolls-Tab (emitted_table x) a)
+by_layer (Expr-F.If c a b) = sym (e.rolls-If c a b)
+by_layer (Expr-F.Match a arms) = sym (e.rolls-Match a arms)
+by_layer (Expr-F.Do items a) = sym (e.rolls-Do items a)
+by_layer (Expr-F.Frame slots a) = sym (e.rolls-Frame (map slot_bundled slots) a)
+by_layer (Expr-F.Alloc b n a) = sym (e.rolls-Alloc (ty_bundled b) n a)
+by_layer (Expr-F.While c a) = sym (e.rolls-While c a)
+by_layer (Expr-F.For x a b c) = sym (e.rolls-For x a b c)
+by_layer (Expr-F.Call x args es) = sym (e.rolls-Call (emitted_fun x) (map ty_bundled args) es)
+by_layer (Expr-F.Cases cases) = sym (e.rolls-Cases cases)
+by_layer (Expr-F.TagIs x a) = sym (e.rolls-TagIs x a)
+by_layer (Expr-F.Part x j a) = sym (e.rolls-Part x j a)
+by_layer (Expr-F.Fill k a) = sym (e.rolls-Fill k a)
 
 pub out_expr_bundled : (x : Expr) → out-Expr (expr_bundled x) ≡ form_bundled (out-Expr x)
-out_expr_bundled x = ap out-Expr (fold_out-Expr Expr Item Arm Case level_expr level_item level_arm level_case x) ∙ go (out-Expr x)
-  where
-    go : (o : Form) → out-Expr (level_expr (map-Expr Expr Item Arm Case Expr Item Arm Case expr_bundled item_bundled arm_bundled case_bundled o)) ≡ form_bundled o
-    go (Expr-F.Var x) = e.outs-Var x
-    go Expr-F.Unit = e.outs-Unit
-    go (Expr-F.Bool b) = e.outs-Bool b
-    go (Expr-F.Num i n) = e.outs-Num i n
-    go (Expr-F.Bin o i a b) = e.outs-Bin o i (expr_bundled a) (expr_bundled b)
-    go (Expr-F.Shift left i a n) = e.outs-Shift left i (expr_bundled a) (expr_bundled n)
-    go (Expr-F.Cmp o i a b) = e.outs-Cmp o i (expr_bundled a) (expr_bundled b)
-    go (Expr-F.Not a) = e.outs-Not (expr_bundled a)
-    go (Expr-F.Cast i j a) = e.outs-Cast i j (expr_bundled a)
-    go (Expr-F.Hide i a) = e.outs-Hide i (expr_bundled a)
-    go (Expr-F.Make x args es) = e.outs-Make (emitted_type x) (map ty_bundled args) (map expr_bundled es)
-    go (Expr-F.Get y a) = e.outs-Get (emitted_field y) (expr_bundled a)
-    go (Expr-F.Con x args es) = e.outs-Con x (map ty_bundled args) (map expr_bundled es)
-    go (Expr-F.Read a i) = e.outs-Read (expr_bundled a) (expr_bundled i)
-    go (Expr-F.Write a i w) = e.outs-Write (expr_bundled a) (expr_bundled i) (expr_bundled w)
-    go (Expr-F.Slice a i n) = e.outs-Slice (expr_bundled a) (expr_bundled i) (expr_bundled n)
-    go (Expr-F.Tab x a) = e.outs-Tab (emitted_table x) (expr_bundled a)
-    go (Expr-F.If c a b) = e.outs-If (expr_bundled c) (expr_bundled a) (expr_bundled b)
-    go (Expr-F.Match a arms) = e.outs-Match (expr_bundled a) (map arm_bundled arms)
-    go (Expr-F.Do items a) = e.outs-Do (map item_bundled items) (expr_bundled a)
-    go (Expr-F.Frame slots a) = e.outs-Frame (map slot_bundled slots) (expr_bundled a)
-    go (Expr-F.Alloc b n a) = e.outs-Alloc (ty_bundled b) n (expr_bundled a)
-    go (Expr-F.While c a) = e.outs-While (expr_bundled c) (expr_bundled a)
-    go (Expr-F.For x a b c) = e.outs-For x (expr_bundled a) (expr_bundled b) (expr_bundled c)
-    go (Expr-F.Call x args es) = e.outs-Call (emitted_fun x) (map ty_bundled args) (map expr_bundled es)
-    go (Expr-F.Cases cases) = e.outs-Cases (map case_bundled cases)
-    go (Expr-F.TagIs x a) = e.outs-TagIs x (expr_bundled a)
-    go (Expr-F.Part x j a) = e.outs-Part x j (expr_bundled a)
-    go (Expr-F.Fill k a) = e.outs-Fill k (expr_bundled a)
+out_expr_bundled x =
+    ap out-Expr (fold_out-Expr Expr Item Arm Case level_expr level_item level_arm level_case x ∙ by_layer _)
+    ∙ out-roll-Expr (form_bundled (out-Expr x))

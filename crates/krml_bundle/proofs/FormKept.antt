@@ -5,13 +5,17 @@ use Rattle.krml_syntax.specs.declared.tree.CmpOp.TheVariants.{Eq}
 use Rattle.krml_syntax.specs.declared.tree.Ty.{Ty, out-Ty}
 use Rattle.krml_syntax.specs.declared.tree.Ty.TheOpen.{Ty-F}
 use Rattle.krml_syntax.specs.declared.tree.Slot.{Slot}
+use Rattle.krml_syntax.specs.declared.tree.Item.{Item}
+use Rattle.krml_syntax.specs.declared.tree.Arm.{Arm}
+use Rattle.krml_syntax.specs.declared.tree.Case.{Case}
 use Rattle.krml_syntax.specs.declared.tree.Expr.{Expr, out-Expr}
 use Rattle.krml_syntax.specs.declared.tree.Expr.TheVariants as e
 use Rattle.krml_syntax.specs.declared.tree.Expr.TheOpen.{Expr-F}
 use Rattle.krml_syntax.specs.declared.tree.Def.{Def}
 use Rattle.krml_syntax.specs.declared.tree.Def.TheVariants as d
+use Rattle.krml_syntax.specs.Shape.{Role, role, type_arguments}
 use Rattle.krml_ast.specs.Pieces.{Piece, Value, Test, Pattern, Written, Bound, pieces_in}
-use Rattle.krml_ast.specs.FileTypes.{Form, HasSize, IsSlot, HasSlots, SlotsIn, IsRegular, listed_vars, bound_name, HasNoArguments, IsClosedTy, ClosedIn, IsMonomorphic, HasNoMatch, HasNoAlloc, IsPlace, IsTest, HasNoTag, TestsIn, FormIn, EachForm, HasSlotsListed}
+use Rattle.krml_ast.specs.FileTypes.{role_of, HasSize, IsSlot, HasSlots, SlotsIn, IsRegular, listed_vars, bound_name, IsClosedTy, ClosedIn, IsMonomorphic, HasNoMatch, HasNoAlloc, IsPlace, IsTest, HasNoTag, TestsIn, RoleIn, EachRole, HasSlotsListed}
 use Rattle.krml_meaning.proofs.Lists.{map_length}
 use Rattle.krml_bundle.specs.Emitted.{emitted_field}
 use Rattle.krml_bundle.specs.Bundled.{ty_bundled, field_bundled, con_bundled, slot_bundled, expr_bundled, def_bundled}
@@ -29,16 +33,28 @@ use Rattle.krml_bundle.proofs.FormDefs.{defs_kept}
 pub pieces_kept : (P Q : Piece → Type 0) (defs : List Def) → ((x : Piece) → P x → Q (piece_bundled x)) → AllByRecursion P (pieces_in defs) → AllByRecursion Q (pieces_in (map def_bundled defs))
 pieces_kept P Q defs k h = subst (AllByRecursion Q) (sym (file_pieces defs)) (each_map piece_bundled P Q (pieces_in defs) k h)
 
--- what holds of each form holds under the new names, where a form keeps it
-form_in_kept : (P Q : Form → Type 0) → ((o : Form) → P o → Q (form_bundled o)) → (x : Piece) → FormIn P x → FormIn Q (piece_bundled x)
-form_in_kept P Q k (Value x) h = subst Q (sym (out_expr_bundled x)) (k (out-Expr x) h)
-form_in_kept P Q k (Test x) h = subst Q (sym (out_expr_bundled x)) (k (out-Expr x) h)
-form_in_kept P Q k (Pattern q) h = tt
-form_in_kept P Q k (Written a) h = tt
-form_in_kept P Q k (Bound x) h = tt
+-- a form keeps its role, with the slots under the new names
+abbrev role_bundled : Role → Role
+role_bundled (Role.frame slots) = Role.frame (map slot_bundled slots)
+role_bundled r = r
 
-pub forms_kept : (P Q : Form → Type 0) (defs : List Def) → ((o : Form) → P o → Q (form_bundled o)) → EachForm P defs → EachForm Q (map def_bundled defs)
-forms_kept P Q defs k h = pieces_kept (FormIn P) (FormIn Q) defs (form_in_kept P Q k) h
+role_kept : (x : Expr) → role_of (expr_bundled x) ≡ role_bundled (role_of x)
+role_kept x = ap role (out_expr_bundled x) ∙ go (out-Expr x)
+  where
+    go : (o : Expr-F Expr Item Arm Case) → role (form_bundled o) ≡ role_bundled (role o)
+    go (Expr-F.Var x) = refl
+    go _ = refl
+
+-- what holds of each role holds under the new names, where a role keeps it
+role_in_kept : (P Q : Role → Type 0) → ((r : Role) → P r → Q (role_bundled r)) → (x : Piece) → RoleIn P x → RoleIn Q (piece_bundled x)
+role_in_kept P Q k (Value x) h = subst Q (sym (role_kept x)) (k (role_of x) h)
+role_in_kept P Q k (Test x) h = subst Q (sym (role_kept x)) (k (role_of x) h)
+role_in_kept P Q k (Pattern q) h = tt
+role_in_kept P Q k (Written a) h = tt
+role_in_kept P Q k (Bound x) h = tt
+
+pub roles_kept : (P Q : Role → Type 0) (defs : List Def) → ((r : Role) → P r → Q (role_bundled r)) → EachRole P defs → EachRole Q (map def_bundled defs)
+roles_kept P Q defs k h = pieces_kept (RoleIn P) (RoleIn Q) defs (role_in_kept P Q k) h
 
 -- ---- sizes
 
@@ -58,12 +74,12 @@ module _ (defs : List Def) where
   slot_kept : (s : Slot) → IsSlot defs s → IsSlot defs' (slot_bundled s)
   slot_kept s h = record { typed = type_kept defs [] s.ty h.typed; flat = flat_kept defs s.ty h.flat; size = h.size }
 
-  slots_kept : (o : Form) → HasSlots defs o → HasSlots defs' (form_bundled o)
-  slots_kept (Expr-F.Frame slots a) h = each_map slot_bundled (IsSlot defs) (IsSlot defs') slots slot_kept h
+  slots_kept : (r : Role) → HasSlots defs r → HasSlots defs' (role_bundled r)
+  slots_kept (Role.frame slots) h = each_map slot_bundled (IsSlot defs) (IsSlot defs') slots slot_kept h
   slots_kept _ h = tt
 
   slots_in_kept : (x : Piece) → SlotsIn defs x → SlotsIn defs' (piece_bundled x)
-  slots_in_kept (Value x) h = subst (HasSlots defs') (sym (out_expr_bundled x)) (slots_kept (out-Expr x) h)
+  slots_in_kept (Value x) h = subst (HasSlots defs') (sym (role_kept x)) (slots_kept (role_of x) h)
   slots_in_kept (Test x) h = tt
   slots_in_kept (Pattern q) h = tt
   slots_in_kept (Written a) h = tt
@@ -78,11 +94,12 @@ module _ (defs : List Def) where
 
 -- ---- type arguments
 
-arguments_none : (o : Form) → HasNoArguments o → HasNoArguments (form_bundled o)
-arguments_none (Expr-F.Make x args es) h = ap (map ty_bundled) h
-arguments_none (Expr-F.Con x args es) h = ap (map ty_bundled) h
-arguments_none (Expr-F.Call x args es) h = ap (map ty_bundled) h
-arguments_none _ h = tt
+arguments_kept : (x : Expr) → type_arguments (out-Expr (expr_bundled x)) ≡ map ty_bundled (type_arguments (out-Expr x))
+arguments_kept x = ap type_arguments (out_expr_bundled x) ∙ go (out-Expr x)
+  where
+    go : (o : Expr-F Expr Item Arm Case) → type_arguments (form_bundled o) ≡ map ty_bundled (type_arguments o)
+    go (Expr-F.Var x) = refl
+    go _ = refl
 
 closed_under : (o : Ty-F Ty) → IsClosedTy o → IsClosedTy (ty_under o)
 closed_under (Ty-F.Var x) h = h
@@ -90,8 +107,8 @@ closed_under (Ty-F.Named x args) h = ap (map ty_bundled) h
 closed_under _ h = tt
 
 closed_kept : (x : Piece) → ClosedIn x → ClosedIn (piece_bundled x)
-closed_kept (Value x) h = subst HasNoArguments (sym (out_expr_bundled x)) (arguments_none (out-Expr x) h)
-closed_kept (Test x) h = subst HasNoArguments (sym (out_expr_bundled x)) (arguments_none (out-Expr x) h)
+closed_kept (Value x) h = arguments_kept x ∙ ap (map ty_bundled) h
+closed_kept (Test x) h = arguments_kept x ∙ ap (map ty_bundled) h
 closed_kept (Written a) h = subst IsClosedTy (sym (out_ty_bundled a)) (closed_under (out-Ty a) h)
 closed_kept (Pattern q) h = tt
 closed_kept (Bound x) h = tt
@@ -104,16 +121,16 @@ monomorphic_kept defs m = record {
 
 -- ---- matches, tests and `alloc`
 
-no_match_kept : (o : Form) → HasNoMatch o → HasNoMatch (form_bundled o)
-no_match_kept (Expr-F.Match a arms) h = h
+no_match_kept : (r : Role) → HasNoMatch r → HasNoMatch (role_bundled r)
+no_match_kept Role.match h = h
 no_match_kept _ h = tt
 
-no_alloc_kept : (o : Form) → HasNoAlloc o → HasNoAlloc (form_bundled o)
-no_alloc_kept (Expr-F.Alloc b n a) h = h
+no_alloc_kept : (r : Role) → HasNoAlloc r → HasNoAlloc (role_bundled r)
+no_alloc_kept Role.alloc h = h
 no_alloc_kept _ h = tt
 
-no_tag_kept : (o : Form) → HasNoTag o → HasNoTag (form_bundled o)
-no_tag_kept (Expr-F.TagIs x a) h = h
+no_tag_kept : (r : Role) → HasNoTag r → HasNoTag (role_bundled r)
+no_tag_kept Role.tag_is h = h
 no_tag_kept _ h = tt
 
 place_kept : (x : Expr) → IsPlace x → IsPlace (expr_bundled x)
@@ -128,7 +145,7 @@ test_kept x (IsTest.place a h) = IsTest.place (expr_bundled a) (place_kept a h)
 test_kept x (IsTest.opposite a h) = rw (f.not_bundled a) (IsTest.opposite (expr_bundled a) (place_kept a h))
 
 tests_in_kept : (x : Piece) → TestsIn x → TestsIn (piece_bundled x)
-tests_in_kept (Value x) h = subst HasNoTag (sym (out_expr_bundled x)) (no_tag_kept (out-Expr x) h)
+tests_in_kept (Value x) h = subst HasNoTag (sym (role_kept x)) (no_tag_kept (role_of x) h)
 tests_in_kept (Test x) h = test_kept x h
 tests_in_kept (Pattern q) h = tt
 tests_in_kept (Written a) h = tt
@@ -140,9 +157,9 @@ pub listed_kept : (defs : List Def) → HasSlotsListed defs → HasSlotsListed (
 listed_kept defs l = record {
   regular = regular_kept defs l.regular;
   monomorphic = monomorphic_kept defs l.monomorphic;
-  matches = forms_kept HasNoMatch HasNoMatch defs no_match_kept l.matches;
+  matches = roles_kept HasNoMatch HasNoMatch defs no_match_kept l.matches;
   tests = pieces_kept TestsIn TestsIn defs tests_in_kept l.tests;
-  allocs = forms_kept HasNoAlloc HasNoAlloc defs no_alloc_kept l.allocs;
+  allocs = roles_kept HasNoAlloc HasNoAlloc defs no_alloc_kept l.allocs;
 }
 
 -- ---- variables

@@ -17,19 +17,21 @@ use Rattle.krml_syntax.specs.declared.tree.Arm.{Arm, roll-Arm}
 use Rattle.krml_syntax.specs.declared.tree.Case.{Case, roll-Case}
 use Rattle.krml_syntax.specs.declared.tree.Item.{Item, roll-Item}
 use Rattle.krml_syntax.specs.declared.tree.Item.TheVariants as item
-use Rattle.krml_syntax.specs.declared.tree.Expr.{Expr, roll-Expr, map-Expr}
-use Rattle.krml_syntax.specs.declared.tree.Expr.TheVariants as e
+use Rattle.krml_syntax.specs.declared.tree.Expr.{Expr, roll-Expr}
 use Rattle.krml_syntax.specs.declared.tree.Expr.TheOpen.{Expr-F, Item-F, Arm-F, Case-F}
-use Rattle.krml_syntax.specs.declared.tree.Expr.TheFolds.{ind-Expr, map-Item, map-Arm, map-Case}
+use Rattle.krml_syntax.specs.declared.tree.Expr.TheViews.{out-roll-Expr}
 use Rattle.krml_syntax.specs.declared.tree.Def.{Def}
 use Rattle.krml_syntax.specs.declared.tree.Def.TheVariants as d
-use Rattle.krml_ast.specs.Pieces.{Piece, Value, Test, Pattern, Written, Bound, inside_level_ty, inside_level_pat, pieces_of, pieces_of_ty, pieces_of_pat, pieces_of_def, pieces_in, field_types}
-use Rattle.krml_meaning.proofs.Pieces as in_form
-use Rattle.krml_meaning.proofs.Pieces.{inside, inside_item, inside_arm, inside_case, in_values, in_tests, in_items, in_arms, in_cases, written}
+use Rattle.krml_ast.specs.Pieces.{Piece, Value, Test, Pattern, Written, Bound, inside_level_ty, inside_level_pat, pieces_of, pieces_of_ty, pieces_of_pat, pieces_of_def, pieces_in, field_types, own_pieces}
+use Rattle.krml_syntax.specs.Shape.{map_layer, Part, map_part, parts_of, parts_of_item, parts_of_arm, parts_of_case, OfParts}
+use Rattle.krml_syntax.proofs.Shape.{parts_mapped}
+use Rattle.krml_syntax.proofs.Attached.{by_parts}
+use Rattle.krml_ast.proofs.Pieces.{Parts, inside, inside_item, inside_arm, inside_case, in_tests, pieces_of_parts, own_mapped, inside_roll, inside_of, let_inside, run_inside, arm_inside, case_inside}
 use Rattle.krml_bundle.specs.Emitted.{emitted_fun, emitted_type, emitted_table, emitted_field}
 use Rattle.krml_bundle.specs.Bundled.{ty_bundled, field_bundled, param_bundled, con_bundled, slot_bundled, pat_bundled, expr_bundled, def_bundled, item_bundled, arm_bundled, case_bundled}
 use Rattle.krml_bundle.proofs.RunsValues.{bool_ty_bundled, unit_ty_bundled, int_ty_bundled, buf_ty_bundled, var_ty_bundled, named_ty_bundled}
 use Rattle.krml_bundle.proofs.FormExprs as f
+use Rattle.krml_bundle.proofs.FormExprs.{layer_bundled, form_bundled, same_parts, out_expr_bundled}
 
 -- a piece under the new names
 abbrev pub piece_bundled : Piece → Piece
@@ -168,166 +170,81 @@ InCase x = inside_case (case_bundled x) ≡ all_bundled (inside_case x)
 whole : (x : Expr) → InExpr x → pieces_of (expr_bundled x) ≡ all_bundled (pieces_of x)
 whole x h = ap (λ z. Value (expr_bundled x) ∷ z) h
 
--- of two and of three parts
-two : (a b : Expr) → InExpr a → InExpr b → pieces_of (expr_bundled a) ++ pieces_of (expr_bundled b) ≡ all_bundled (pieces_of a ++ pieces_of b)
-two a b h k = both (pieces_of a) (pieces_of b) (pieces_of (expr_bundled a)) (pieces_of (expr_bundled b)) (whole a h) (whole b k)
+-- parts under the new names
+abbrev parts_bundled : Parts → Parts
+parts_bundled parts = map (map_part expr_bundled item_bundled arm_bundled case_bundled) parts
 
-three : (a b c : Expr) → InExpr a → InExpr b → InExpr c
-    → pieces_of (expr_bundled a) ++ pieces_of (expr_bundled b) ++ pieces_of (expr_bundled c) ≡ all_bundled (pieces_of a ++ pieces_of b ++ pieces_of c)
-three a b c h k l = both (pieces_of a ++ pieces_of b) (pieces_of c) (pieces_of (expr_bundled a) ++ pieces_of (expr_bundled b)) (pieces_of (expr_bundled c)) (two a b h k) (whole c l)
+in_parts : (parts : Parts) → OfParts InExpr InItem InArm InCase parts → pieces_of_parts (parts_bundled parts) ≡ all_bundled (pieces_of_parts parts)
+in_parts [] h = refl
+in_parts (Part.expr a ∷ parts) h = both (pieces_of a) (pieces_of_parts parts) _ _ (whole a h.0) (in_parts parts h.1)
+in_parts (Part.item x ∷ parts) h = both (inside_item x) (pieces_of_parts parts) _ _ h.0 (in_parts parts h.1)
+in_parts (Part.arm x ∷ parts) h = both (inside_arm x) (pieces_of_parts parts) _ _ h.0 (in_parts parts h.1)
+in_parts (Part.case_ x ∷ parts) h = both (inside_case x) (pieces_of_parts parts) _ _ h.0 (in_parts parts h.1)
 
--- a form, whose parts stand behind the types that it writes
-form : (x y : Expr) (types types' : List Ty) (rest rest' : List Piece) → expr_bundled x ≡ y → inside x ≡ written types rest → inside y ≡ written types' rest'
-    → types' ≡ map ty_bundled types → rest' ≡ all_bundled rest → InExpr x
-form x y types types' rest rest' is h k e q =
-    ap inside is ∙ k
-    ∙ both (flat_map pieces_of_ty types) rest (flat_map pieces_of_ty types') rest' (ap (λ z. flat_map pieces_of_ty z) e ∙ types_pieces types) q
-    ∙ ap all_bundled (sym h)
+-- a form writes the same types under the new names, and binds the same variables
+int_own : (i : IntTy) → pieces_of_ty (t.Int i) ≡ all_bundled (pieces_of_ty (t.Int i))
+int_own i = ap pieces_of_ty (sym (int_ty_bundled i)) ∙ ty_pieces (t.Int i)
+
+types_own : (types types' : List Ty) → types' ≡ map ty_bundled types → flat_map pieces_of_ty types' ++ [] ≡ all_bundled (flat_map pieces_of_ty types ++ [])
+types_own types types' is = both (flat_map pieces_of_ty types) [] (flat_map pieces_of_ty types') [] (ap (flat_map pieces_of_ty) is ∙ types_pieces types) refl
 
 one_int : (i : IntTy) → t.Int i ∷ [] ≡ map ty_bundled (t.Int i ∷ [])
 one_int i = ap (λ z. z ∷ []) (sym (int_ty_bundled i))
-
-two_ints : (i j : IntTy) → t.Int i ∷ t.Int j ∷ [] ≡ map ty_bundled (t.Int i ∷ t.Int j ∷ [])
-two_ints i j = ap (λ z. z ∷ t.Int j ∷ []) (sym (int_ty_bundled i)) ∙ ap (λ z. ty_bundled (t.Int i) ∷ z) (one_int j)
 
 of_slots : (slots : List Slot) → map (λ (s : Slot). s.ty) (map slot_bundled slots) ≡ map ty_bundled (map (λ (s : Slot). s.ty) slots)
 of_slots [] = refl
 of_slots (s ∷ slots) = ap (λ z. ty_bundled s.ty ∷ z) (of_slots slots)
 
-module _ (X X' X'' X''' : Type 0) (v : X → Expr) (v' : X' → Item) (v'' : X'' → Arm) (v''' : X''' → Case)
-    (h : (x : X) → InExpr (v x)) (h' : (x : X') → InItem (v' x)) (h'' : (x : X'') → InArm (v'' x)) (h''' : (x : X''') → InCase (v''' x)) where
-  values_inside : (es : List X) → in_values (map expr_bundled (map v es)) ≡ all_bundled (in_values (map v es))
-  values_inside [] = refl
-  values_inside (x ∷ es) = both (pieces_of (v x)) (in_values (map v es)) (pieces_of (expr_bundled (v x))) (in_values (map expr_bundled (map v es))) (whole (v x) (h x)) (values_inside es)
+own : (o : Expr-F Expr Item Arm Case) → own_pieces (layer_bundled o) ≡ all_bundled (own_pieces o)
+own (Expr-F.Num i n) = types_own (t.Int i ∷ []) (t.Int i ∷ []) (one_int i)
+own (Expr-F.Bin o i a b) = types_own (t.Int i ∷ []) (t.Int i ∷ []) (one_int i)
+own (Expr-F.Shift left i a n) = types_own (t.Int i ∷ []) (t.Int i ∷ []) (one_int i)
+own (Expr-F.Cmp o i a b) = types_own (t.Int i ∷ []) (t.Int i ∷ []) (one_int i)
+own (Expr-F.Cast i j a) = types_own (t.Int i ∷ t.Int j ∷ []) (t.Int i ∷ t.Int j ∷ [])
+    (ap (λ z. z ∷ t.Int j ∷ []) (sym (int_ty_bundled i)) ∙ ap (λ z. ty_bundled (t.Int i) ∷ z) (one_int j))
+own (Expr-F.Hide i a) = types_own (t.Int i ∷ []) (t.Int i ∷ []) (one_int i)
+own (Expr-F.Make x args es) = types_own args (map ty_bundled args) refl
+own (Expr-F.Con x args es) = types_own args (map ty_bundled args) refl
+own (Expr-F.Frame slots a) = types_own (map (λ (s : Slot). s.ty) slots) (map (λ (s : Slot). s.ty) (map slot_bundled slots)) (of_slots slots)
+own (Expr-F.Alloc b n a) = types_own (b ∷ []) (ty_bundled b ∷ []) refl
+own (Expr-F.Call x args es) = types_own args (map ty_bundled args) refl
+own _ = refl
 
-  tests_inside : (es : List X) → in_tests (map expr_bundled (map v es)) ≡ all_bundled (in_tests (map v es))
-  tests_inside [] = refl
-  tests_inside (x ∷ es) = both (Test (v x) ∷ inside (v x)) (in_tests (map v es)) (Test (expr_bundled (v x)) ∷ inside (expr_bundled (v x))) (in_tests (map expr_bundled (map v es)))
-      (ap (λ z. Test (expr_bundled (v x)) ∷ z) (h x)) (tests_inside es)
+expr_step : (o : Expr-F Expr Item Arm Case) → OfParts InExpr InItem InArm InCase (parts_of o) → InExpr (roll-Expr o)
+expr_step o h =
+    let x = roll-Expr o in
+    let layer = map_layer expr_bundled item_bundled arm_bundled case_bundled o in
+    inside_of (expr_bundled x) (form_bundled o) (out_expr_bundled x ∙ ap form_bundled (out-roll-Expr o))
+    ∙ both (own_pieces o) (pieces_of_parts (parts_of o)) _ _
+    (own layer ∙ ap all_bundled (own_mapped expr_bundled item_bundled arm_bundled case_bundled o))
+    (ap pieces_of_parts (same_parts layer ∙ parts_mapped expr_bundled item_bundled arm_bundled case_bundled o) ∙ in_parts (parts_of o) h)
+    ∙ ap all_bundled (sym (inside_roll o))
 
-  items_inside : (items : List X') → in_items (map item_bundled (map v' items)) ≡ all_bundled (in_items (map v' items))
-  items_inside [] = refl
-  items_inside (x ∷ items) = both (inside_item (v' x)) (in_items (map v' items)) (inside_item (item_bundled (v' x))) (in_items (map item_bundled (map v' items))) (h' x) (items_inside items)
+item_step : (o : Item-F Expr Item Arm Case) → OfParts InExpr InItem InArm InCase (parts_of_item o) → InItem (roll-Item o)
+item_step (Item-F.Let x b a) h = rw (item.rolls-Let x b a) (rw (f.let_item_bundled x b a, let_inside x (ty_bundled b) (expr_bundled a), let_inside x b a)
+    (both (pieces_of_ty b ++ pieces_of a) (Bound x ∷ []) _ _ (both (pieces_of_ty b) (pieces_of a) _ _ (ty_pieces b) (whole a h.0)) refl))
+item_step (Item-F.Run a) h = rw (item.rolls-Run a) (rw (f.run_item_bundled a, run_inside (expr_bundled a), run_inside a) (whole a h.0))
 
-  arms_inside : (xs : List X'') → in_arms (map arm_bundled (map v'' xs)) ≡ all_bundled (in_arms (map v'' xs))
-  arms_inside [] = refl
-  arms_inside (x ∷ xs) = both (inside_arm (v'' x)) (in_arms (map v'' xs)) (inside_arm (arm_bundled (v'' x))) (in_arms (map arm_bundled (map v'' xs))) (h'' x) (arms_inside xs)
+arm_step : (o : Arm-F Expr Item Arm Case) → OfParts InExpr InItem InArm InCase (parts_of_arm o) → InArm (roll-Arm o)
+arm_step o h = rw (f.arm_parts_bundled o.pat o.body, arm_inside (pat_bundled o.pat) (expr_bundled o.body), arm_inside o.pat o.body)
+    (both (pieces_of_pat o.pat) (pieces_of o.body) _ _ (pat_pieces o.pat) (whole o.body h.0))
 
-  cases_inside : (xs : List X''') → in_cases (map case_bundled (map v''' xs)) ≡ all_bundled (in_cases (map v''' xs))
-  cases_inside [] = refl
-  cases_inside (x ∷ xs) = both (inside_case (v''' x)) (in_cases (map v''' xs)) (inside_case (case_bundled (v''' x))) (in_cases (map case_bundled (map v''' xs))) (h''' x) (cases_inside xs)
+-- tests, and the body behind them
+case_parts : (tests : List Expr) (a : Expr) → OfParts InExpr InItem InArm InCase (map Part.expr tests ++ Part.expr a ∷ [])
+    → (in_tests (map expr_bundled tests) ≡ all_bundled (in_tests tests)) × InExpr a
+case_parts [] a h = (refl, h.0)
+case_parts (x ∷ tests) a h =
+    let k = case_parts tests a h.1 in
+    (both (Test x ∷ inside x) (in_tests tests) _ _ (ap (λ z. Test (expr_bundled x) ∷ z) h.0) k.0, k.1)
 
-  step : (y : Expr-F X X' X'' X''') → InExpr (roll-Expr (map-Expr X X' X'' X''' Expr Item Arm Case v v' v'' v''' y))
-  step (Expr-F.Var x) = rw (e.rolls-Var x) (form _ _ [] [] _ _ (f.var_bundled x) (in_form.var_inside x) (in_form.var_inside x) refl refl)
-  step Expr-F.Unit = rw e.rolls-Unit (form _ _ [] [] _ _ f.unit_bundled in_form.unit_inside in_form.unit_inside refl refl)
-  step (Expr-F.Bool b) = rw (e.rolls-Bool b) (form _ _ [] [] _ _ (f.bool_bundled b) (in_form.bool_inside b) (in_form.bool_inside b) refl refl)
-  step (Expr-F.Num i n) = rw (e.rolls-Num i n) (form _ _ (t.Int i ∷ []) (t.Int i ∷ []) _ _ (f.num_bundled i n) (in_form.num_inside i n) (in_form.num_inside i n) (one_int i) refl)
-  step (Expr-F.Bin o i a b) = rw (e.rolls-Bin o i (v a) (v b)) (form _ _ (t.Int i ∷ []) (t.Int i ∷ []) _ _ (f.bin_bundled o i (v a) (v b))
-      (in_form.bin_inside o i (v a) (v b)) (in_form.bin_inside o i (expr_bundled (v a)) (expr_bundled (v b)))
-      (one_int i) (two (v a) (v b) (h a) (h b)))
-  step (Expr-F.Shift left i a n) = rw (e.rolls-Shift left i (v a) (v n)) (form _ _ (t.Int i ∷ []) (t.Int i ∷ []) _ _ (f.shift_bundled left i (v a) (v n))
-      (in_form.shift_inside left i (v a) (v n)) (in_form.shift_inside left i (expr_bundled (v a)) (expr_bundled (v n)))
-      (one_int i) (two (v a) (v n) (h a) (h n)))
-  step (Expr-F.Cmp o i a b) = rw (e.rolls-Cmp o i (v a) (v b)) (form _ _ (t.Int i ∷ []) (t.Int i ∷ []) _ _ (f.cmp_bundled o i (v a) (v b))
-      (in_form.cmp_inside o i (v a) (v b)) (in_form.cmp_inside o i (expr_bundled (v a)) (expr_bundled (v b)))
-      (one_int i) (two (v a) (v b) (h a) (h b)))
-  step (Expr-F.Not a) = rw (e.rolls-Not (v a)) (form _ _ [] [] _ _ (f.not_bundled (v a)) (in_form.not_inside (v a)) (in_form.not_inside (expr_bundled (v a))) refl (whole (v a) (h a)))
-  step (Expr-F.Cast i j a) = rw (e.rolls-Cast i j (v a)) (form _ _ (t.Int i ∷ t.Int j ∷ []) (t.Int i ∷ t.Int j ∷ []) _ _ (f.cast_bundled i j (v a))
-      (in_form.cast_inside i j (v a)) (in_form.cast_inside i j (expr_bundled (v a)))
-      (two_ints i j) (whole (v a) (h a)))
-  step (Expr-F.Hide i a) = rw (e.rolls-Hide i (v a)) (form _ _ (t.Int i ∷ []) (t.Int i ∷ []) _ _ (f.hide_bundled i (v a))
-      (in_form.hide_inside i (v a)) (in_form.hide_inside i (expr_bundled (v a)))
-      (one_int i) (whole (v a) (h a)))
-  step (Expr-F.Make x args es) = rw (e.rolls-Make x args (map v es)) (form _ _ args (map ty_bundled args) _ _ (f.make_bundled x args (map v es))
-      (in_form.make_inside x args (map v es)) (in_form.make_inside (emitted_type x) (map ty_bundled args) (map expr_bundled (map v es)))
-      refl (values_inside es))
-  step (Expr-F.Get y a) = rw (e.rolls-Get y (v a)) (form _ _ [] [] _ _ (f.get_bundled y (v a))
-      (in_form.get_inside y (v a)) (in_form.get_inside (emitted_field y) (expr_bundled (v a)))
-      refl (whole (v a) (h a)))
-  step (Expr-F.Con x args es) = rw (e.rolls-Con x args (map v es)) (form _ _ args (map ty_bundled args) _ _ (f.con_bundled x args (map v es))
-      (in_form.con_inside x args (map v es)) (in_form.con_inside x (map ty_bundled args) (map expr_bundled (map v es)))
-      refl (values_inside es))
-  step (Expr-F.Read a i) = rw (e.rolls-Read (v a) (v i)) (form _ _ [] [] _ _ (f.read_bundled (v a) (v i))
-      (in_form.read_inside (v a) (v i)) (in_form.read_inside (expr_bundled (v a)) (expr_bundled (v i)))
-      refl (two (v a) (v i) (h a) (h i)))
-  step (Expr-F.Write a i w) = rw (e.rolls-Write (v a) (v i) (v w)) (form _ _ [] [] _ _ (f.write_bundled (v a) (v i) (v w))
-      (in_form.write_inside (v a) (v i) (v w)) (in_form.write_inside (expr_bundled (v a)) (expr_bundled (v i)) (expr_bundled (v w)))
-      refl (three (v a) (v i) (v w) (h a) (h i) (h w)))
-  step (Expr-F.Slice a i n) = rw (e.rolls-Slice (v a) (v i) (v n)) (form _ _ [] [] _ _ (f.slice_bundled (v a) (v i) (v n))
-      (in_form.slice_inside (v a) (v i) (v n)) (in_form.slice_inside (expr_bundled (v a)) (expr_bundled (v i)) (expr_bundled (v n)))
-      refl (three (v a) (v i) (v n) (h a) (h i) (h n)))
-  step (Expr-F.Tab x a) = rw (e.rolls-Tab x (v a)) (form _ _ [] [] _ _ (f.tab_bundled x (v a))
-      (in_form.tab_inside x (v a)) (in_form.tab_inside (emitted_table x) (expr_bundled (v a)))
-      refl (whole (v a) (h a)))
-  step (Expr-F.If c a b) = rw (e.rolls-If (v c) (v a) (v b)) (form _ _ [] [] _ _ (f.choice_bundled (v c) (v a) (v b))
-      (in_form.choice_inside (v c) (v a) (v b)) (in_form.choice_inside (expr_bundled (v c)) (expr_bundled (v a)) (expr_bundled (v b)))
-      refl (three (v c) (v a) (v b) (h c) (h a) (h b)))
-  step (Expr-F.Match a arms) = rw (e.rolls-Match (v a) (map v'' arms)) (form _ _ [] [] _ _ (f.match_bundled (v a) (map v'' arms))
-      (in_form.match_inside (v a) (map v'' arms)) (in_form.match_inside (expr_bundled (v a)) (map arm_bundled (map v'' arms)))
-      refl (both (pieces_of (v a)) (in_arms (map v'' arms)) (pieces_of (expr_bundled (v a))) (in_arms (map arm_bundled (map v'' arms))) (whole (v a) (h a)) (arms_inside arms)))
-  step (Expr-F.Do items a) = rw (e.rolls-Do (map v' items) (v a)) (form _ _ [] [] _ _ (f.block_bundled (map v' items) (v a))
-      (in_form.block_inside (map v' items) (v a)) (in_form.block_inside (map item_bundled (map v' items)) (expr_bundled (v a)))
-      refl (both (in_items (map v' items)) (pieces_of (v a)) (in_items (map item_bundled (map v' items))) (pieces_of (expr_bundled (v a))) (items_inside items) (whole (v a) (h a))))
-  step (Expr-F.Frame slots a) = rw (e.rolls-Frame slots (v a)) (form _ _ (map (λ (s : Slot). s.ty) slots) (map (λ (s : Slot). s.ty) (map slot_bundled slots)) _ _ (f.frame_bundled slots (v a))
-      (in_form.frame_inside slots (v a)) (in_form.frame_inside (map slot_bundled slots) (expr_bundled (v a)))
-      (of_slots slots) (whole (v a) (h a)))
-  step (Expr-F.Alloc b n a) = rw (e.rolls-Alloc b n (v a)) (form _ _ (b ∷ []) (ty_bundled b ∷ []) _ _ (f.alloc_bundled b n (v a))
-      (in_form.alloc_inside b n (v a)) (in_form.alloc_inside (ty_bundled b) n (expr_bundled (v a)))
-      refl (whole (v a) (h a)))
-  step (Expr-F.While c a) = rw (e.rolls-While (v c) (v a)) (form _ _ [] [] _ _ (f.while_bundled (v c) (v a))
-      (in_form.while_inside (v c) (v a)) (in_form.while_inside (expr_bundled (v c)) (expr_bundled (v a)))
-      refl (two (v c) (v a) (h c) (h a)))
-  step (Expr-F.For x a b c) = rw (e.rolls-For x (v a) (v b) (v c)) (form _ _ [] [] _ _ (f.for_bundled x (v a) (v b) (v c))
-      (in_form.for_inside x (v a) (v b) (v c)) (in_form.for_inside x (expr_bundled (v a)) (expr_bundled (v b)) (expr_bundled (v c)))
-      refl (both (pieces_of (v a) ++ pieces_of (v b)) (Bound x ∷ pieces_of (v c))
-      (pieces_of (expr_bundled (v a)) ++ pieces_of (expr_bundled (v b))) (Bound x ∷ pieces_of (expr_bundled (v c)))
-      (two (v a) (v b) (h a) (h b)) (ap (λ z. Bound x ∷ z) (whole (v c) (h c)))))
-  step (Expr-F.Call x args es) = rw (e.rolls-Call x args (map v es)) (form _ _ args (map ty_bundled args) _ _ (f.call_bundled x args (map v es))
-      (in_form.call_inside x args (map v es)) (in_form.call_inside (emitted_fun x) (map ty_bundled args) (map expr_bundled (map v es)))
-      refl (values_inside es))
-  step (Expr-F.Cases cases) = rw (e.rolls-Cases (map v''' cases)) (form _ _ [] [] _ _ (f.cases_bundled (map v''' cases))
-      (in_form.cases_inside (map v''' cases)) (in_form.cases_inside (map case_bundled (map v''' cases)))
-      refl (cases_inside cases))
-  step (Expr-F.TagIs x a) = rw (e.rolls-TagIs x (v a)) (form _ _ [] [] _ _ (f.tag_is_bundled x (v a))
-      (in_form.tag_is_inside x (v a)) (in_form.tag_is_inside x (expr_bundled (v a)))
-      refl (whole (v a) (h a)))
-  step (Expr-F.Part x j a) = rw (e.rolls-Part x j (v a)) (form _ _ [] [] _ _ (f.part_bundled x j (v a))
-      (in_form.part_inside x j (v a)) (in_form.part_inside x j (expr_bundled (v a)))
-      refl (whole (v a) (h a)))
-  step (Expr-F.Fill k a) = rw (e.rolls-Fill k (v a)) (form _ _ [] [] _ _ (f.fill_bundled k (v a)) (in_form.fill_inside k (v a)) (in_form.fill_inside k (expr_bundled (v a))) refl (whole (v a) (h a)))
-
-  item_step : (y : Item-F X X' X'' X''') → InItem (roll-Item (map-Item X X' X'' X''' Expr Item Arm Case v v' v'' v''' y))
-  item_step (Item-F.Let x b a) = rw (item.rolls-Let x b (v a)) (rw (
-    f.let_item_bundled x b (v a),
-    in_form.bound_inside x (ty_bundled b) (expr_bundled (v a)),
-    in_form.bound_inside x b (v a),
-  ) (both (pieces_of_ty b ++ pieces_of (v a)) (Bound x ∷ []) (pieces_of_ty (ty_bundled b) ++ pieces_of (expr_bundled (v a))) (Bound x ∷ [])
-      (both (pieces_of_ty b) (pieces_of (v a)) (pieces_of_ty (ty_bundled b)) (pieces_of (expr_bundled (v a))) (ty_pieces b) (whole (v a) (h a))) refl))
-  item_step (Item-F.Run a) = rw (item.rolls-Run (v a)) (rw (f.run_item_bundled (v a), in_form.ran_inside (expr_bundled (v a)), in_form.ran_inside (v a)) (whole (v a) (h a)))
-
-  arm_step : (y : Arm-F X X' X'' X''') → InArm (roll-Arm (map-Arm X X' X'' X''' Expr Item Arm Case v v' v'' v''' y))
-  arm_step y = rw (
-    f.arm_parts_bundled y.pat (v y.body),
-    in_form.arm_inside (pat_bundled y.pat) (expr_bundled (v y.body)),
-    in_form.arm_inside y.pat (v y.body),
-  ) (both (pieces_of_pat y.pat) (pieces_of (v y.body)) (pieces_of_pat (pat_bundled y.pat)) (pieces_of (expr_bundled (v y.body))) (pat_pieces y.pat) (whole (v y.body) (h y.body)))
-
-  case_step : (y : Case-F X X' X'' X''') → InCase (roll-Case (map-Case X X' X'' X''' Expr Item Arm Case v v' v'' v''' y))
-  case_step y = rw (
-    f.case_parts_bundled (map v y.tests) (v y.body),
-    in_form.case_inside (map expr_bundled (map v y.tests)) (expr_bundled (v y.body)),
-    in_form.case_inside (map v y.tests) (v y.body),
-  ) (both (in_tests (map v y.tests)) (pieces_of (v y.body)) (in_tests (map expr_bundled (map v y.tests))) (pieces_of (expr_bundled (v y.body))) (tests_inside y.tests) (whole (v y.body) (h y.body)))
-
-expr_inside : (x : Expr) → InExpr x
-expr_inside = ind-Expr InExpr InItem InArm InCase
-    (λ x y eq. subst (λ z. InExpr (roll-Expr z)) eq (step _ _ _ _ (λ q. q.0) (λ q. q.0) (λ q. q.0) (λ q. q.0) (λ q. q.1) (λ q. q.1) (λ q. q.1) (λ q. q.1) y))
-    (λ x y eq. subst (λ z. InItem (roll-Item z)) eq (item_step _ _ _ _ (λ q. q.0) (λ q. q.0) (λ q. q.0) (λ q. q.0) (λ q. q.1) (λ q. q.1) (λ q. q.1) (λ q. q.1) y))
-    (λ x y eq. subst (λ z. InArm (roll-Arm z)) eq (arm_step _ _ _ _ (λ q. q.0) (λ q. q.0) (λ q. q.0) (λ q. q.0) (λ q. q.1) (λ q. q.1) (λ q. q.1) (λ q. q.1) y))
-    (λ x y eq. subst (λ z. InCase (roll-Case z)) eq (case_step _ _ _ _ (λ q. q.0) (λ q. q.0) (λ q. q.0) (λ q. q.0) (λ q. q.1) (λ q. q.1) (λ q. q.1) (λ q. q.1) y))
+case_step : (o : Case-F Expr Item Arm Case) → OfParts InExpr InItem InArm InCase (parts_of_case o) → InCase (roll-Case o)
+case_step o h =
+    let k = case_parts o.tests o.body h in
+    rw (f.case_parts_bundled o.tests o.body, case_inside (map expr_bundled o.tests) (expr_bundled o.body), case_inside o.tests o.body)
+    (both (in_tests o.tests) (pieces_of o.body) _ _ k.0 (whole o.body k.1))
 
 pub expr_pieces : (x : Expr) → pieces_of (expr_bundled x) ≡ map piece_bundled (pieces_of x)
-expr_pieces x = whole x (expr_inside x)
+expr_pieces x = whole x (by_parts InExpr InItem InArm InCase expr_step item_step arm_step case_step x)
 
 -- ---- definitions
 
@@ -356,7 +273,7 @@ cons_pieces (c ∷ cons) = both (flat_map pieces_of_ty c.args) (in_cons cons) (f
 pub def_pieces : (def : Def) → pieces_of_def (def_bundled def) ≡ map piece_bundled (pieces_of_def def)
 def_pieces (d.Struct x vars fields) = fields_pieces fields
 def_pieces (d.Sum x vars cons) = cons_pieces cons
-def_pieces (d.Table x i nums) = ap pieces_of_ty (sym (int_ty_bundled i)) ∙ ty_pieces (t.Int i)
+def_pieces (d.Table x i nums) = int_own i
 def_pieces (d.Fun x vars params result body) =
     let types : List Piece = field_types params in
     let names : List Piece = bound_params params in
