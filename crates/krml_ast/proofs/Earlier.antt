@@ -1,14 +1,13 @@
 -- Types of a file's first definitions, whose own types are well formed, are so in the whole file, and hold buffers as there.
-use Rattle.std.proofs.Common.{◌≡◌, ℕ, Bool, true, false, if◌then◌else◌, List, [], ◌∷◌, ◌++◌, Option, Some, ◌⊎◌, inl, inr, ap, ◌∙◌, subst}
+use Rattle.std.proofs.Common.{◌≡◌, ℕ, List, [], ◌∷◌, ◌++◌, Option, Some, ap, ◌∙◌, subst}
 use Rattle.std.specs.List.{Contains}
-use Rattle.std.specs.Str.{bytes_eq}
+use Rattle.krml_trace.proofs.First.{first_kept}
 use Rattle.krml_syntax.specs.declared.tree.Ty.{Ty, out-Ty}
 use Rattle.krml_syntax.specs.declared.tree.Ty.TheOpen.{Ty-F}
 use Rattle.krml_syntax.specs.declared.tree.Ty.TheVariants as t
 use Rattle.krml_syntax.specs.declared.tree.Field.{Field}
 use Rattle.krml_syntax.specs.declared.tree.Def.{Def}
-use Rattle.krml_syntax.specs.declared.tree.Def.TheVariants as d
-use Rattle.krml_ast.specs.Names.{Composite, Struct, Sum, type_named}
+use Rattle.krml_ast.specs.Names.{Composite, Struct, type_here, type_named}
 use Rattle.krml_ast.specs.IsType.{HoldsBuffer, IsFlat, IsType, AreArguments}
 
 -- the fields of the structs of these have well formed types
@@ -21,44 +20,7 @@ none_settled = record { fields = λ x vars fields f is has. absurd (cc) }
 -- ---- names
 
 pub named_more : (before after : List Def) (x : List ℕ) (c : Composite) → type_named before x ≡ Some c → type_named (before ++ after) x ≡ Some c
-named_more [] after x c is = absurd (cc)
-named_more (d.Struct name vars fields ∷ before) after x c is = go (bytes_eq name x) is (named_more before after x c)
-  where
-    go : (b : Bool) → (if b then Some (Struct vars fields) else type_named before x) ≡ Some c
-        → (type_named before x ≡ Some c → type_named (before ++ after) x ≡ Some c) → (if b then Some (Struct vars fields) else type_named (before ++ after) x) ≡ Some c
-    go true k later = k
-    go false k later = later k
-named_more (d.Sum name vars cons ∷ before) after x c is = go (bytes_eq name x) is (named_more before after x c)
-  where
-    go : (b : Bool) → (if b then Some (Sum vars cons) else type_named before x) ≡ Some c
-        → (type_named before x ≡ Some c → type_named (before ++ after) x ≡ Some c) → (if b then Some (Sum vars cons) else type_named (before ++ after) x) ≡ Some c
-    go true k later = k
-    go false k later = later k
-named_more (d.Table name ty nums ∷ before) after x c is = named_more before after x c is
-named_more (d.Fun name vars params result body ∷ before) after x c is = named_more before after x c is
-named_more (d.Entry name ∷ before) after x c is = named_more before after x c is
-
--- a name means something earlier, or the last definition, which is where it means nothing earlier
-pub named_last : (before : List Def) (def : Def) (x : List ℕ) (c : Composite) → type_named (before ++ def ∷ []) x ≡ Some c
-    → (type_named before x ≡ Some c) ⊎ (type_named (def ∷ []) x ≡ Some c)
-named_last [] def x c is = inr is
-named_last (d.Struct name vars fields ∷ before) def x c is = go (bytes_eq name x) is (named_last before def x c)
-  where
-    go : (b : Bool) → (if b then Some (Struct vars fields) else type_named (before ++ def ∷ []) x) ≡ Some c
-        → (type_named (before ++ def ∷ []) x ≡ Some c → (type_named before x ≡ Some c) ⊎ (type_named (def ∷ []) x ≡ Some c))
-        → ((if b then Some (Struct vars fields) else type_named before x) ≡ Some c) ⊎ (type_named (def ∷ []) x ≡ Some c)
-    go true k later = inl k
-    go false k later = later k
-named_last (d.Sum name vars cons ∷ before) def x c is = go (bytes_eq name x) is (named_last before def x c)
-  where
-    go : (b : Bool) → (if b then Some (Sum vars cons) else type_named (before ++ def ∷ []) x) ≡ Some c
-        → (type_named (before ++ def ∷ []) x ≡ Some c → (type_named before x ≡ Some c) ⊎ (type_named (def ∷ []) x ≡ Some c))
-        → ((if b then Some (Sum vars cons) else type_named before x) ≡ Some c) ⊎ (type_named (def ∷ []) x ≡ Some c)
-    go true k later = inl k
-    go false k later = later k
-named_last (d.Table name ty nums ∷ before) def x c is = named_last before def x c is
-named_last (d.Fun name vars params result body ∷ before) def x c is = named_last before def x c is
-named_last (d.Entry name ∷ before) def x c is = named_last before def x c is
+named_more before after x c = first_kept (type_here x) before after c
 
 -- ---- the parts of a well formed type
 

@@ -8,31 +8,25 @@ use Rattle.std.proofs.lemmas.Bool.{ltb-true, ltb-false}
 use Rattle.std.proofs.lemmas.List.{length-take-le}
 use Rattle.std.proofs.lemmas.Option.{slice_get-get_or, slice_get_past}
 use Rattle.std.proofs.lemmas.Slice.Eq.{bytes_eq-Decides}
+use Rattle.std.specs.Option.{option_or}
+use Rattle.krml_trace.specs.First.{first}
+use Rattle.krml_trace.proofs.First.{Alike, or_none, first_alike, alike_then, alike_is, place_next, place_stands}
 use Rattle.krml_syntax.specs.declared.tree.Ty.{Ty}
 use Rattle.krml_syntax.specs.declared.tree.Field.{Field}
 use Rattle.krml_syntax.specs.declared.tree.Con.{Con}
 use Rattle.krml_syntax.specs.declared.tree.Def.{Def}
 use Rattle.krml_syntax.specs.declared.tree.Def.TheVariants as d
 use Rattle.krml_syntax.specs.Read.{◌>>=◌}
-use Rattle.krml_ast.specs.Names.{Composite, Struct, Sum, type_named, struct_of, struct_named, sum_of, sum_named, vars_of, vars_named, con_in, con_or, con_named, table_named, fun_named}
+use Rattle.krml_ast.specs.Names.{Composite, Struct, Sum, type_here, type_named, struct_of, struct_named, sum_of, sum_named, vars_of, vars_named, con_in, con_from, con_here, con_named, table_here, table_named, fun_here, fun_named}
+use Rattle.krml_ast.specs.WellTyped.{type_name, con_names, table_name, fun_name}
 use Rattle.krml_ast.specs.declared.kind.NameKind.{NameKind}
 use Rattle.krml_ast.specs.declared.kind.NameKind.TheVariants as k
-use Rattle.krml_ast.specs.Places.{is_among, cons_of, names_in, place_in, place_of, first_in, first_of, place_or, vars_at, struct_at, sum_at, con_from, con_at, table_at, fun_at}
+use Rattle.krml_ast.specs.Places.{is_among, cons_of, names_in, place_in, place_of, def_here, first_in, first_of, place_or, vars_at, struct_at, sum_at, table_at, fun_at}
 
 -- ---- what stands at a place
 
-one_on : {A : Type 0} (x : A) (xs : List A) (o : Option ℕ) → (option_map suc o >>= slice_get (x ∷ xs)) ≡ (o >>= slice_get xs)
-one_on x xs (Some j) = refl
-one_on x xs None = refl
-
 stands : (names : Def → List (List ℕ)) (defs : List Def) (x : List ℕ) → (place_in names defs x >>= slice_get defs) ≡ first_in names defs x
-stands names [] x = refl
-stands names (def ∷ defs) x = go (is_among (names def) x) (one_on def defs (place_in names defs x) ∙ stands names defs x)
-  where
-    go : (b : Bool) → (option_map suc (place_in names defs x) >>= slice_get (def ∷ defs)) ≡ first_in names defs x
-        → ((if b then Some 0 else option_map suc (place_in names defs x)) >>= slice_get (def ∷ defs)) ≡ (if b then Some def else first_in names defs x)
-    go true later = refl
-    go false later = later
+stands names defs x = place_stands (λ def. is_among (names def) x) defs
 
 -- what `get` of a slice gives
 pub got : {A : Type 0} (o : Option (Bor A)) (xs : List A) (j : ℕ) → is_some o ≡ ltb j (length xs) → IfSome o (λ x. x.now ≡ get_or xs j x.now)
@@ -49,26 +43,27 @@ no_first kind defs x e = sym (stands (names_in kind) defs x) ∙ ap (λ o. o >>=
 
 -- ---- names by the first definitions that give them
 
+-- what a definition gives is alike where it has the name
+module _ {A : Type 0} (R : A → Def → Type 0) where
+  where_named : (b : Bool) (a : A) (def : Def) → R a def → Alike R (if b then Some a else None) (if (b || false) then Some def else None)
+  where_named true a def r = r
+  where_named false a def r = tt
+
 -- a law of a name's struct or sum, by what is made of it
 module _ {A : Type 0} (of : Composite → Option A) (at : Def → Option A) (struct : (name : List ℕ) (vars : List (List ℕ)) (fields : List Field) → of (Struct vars fields) ≡ at (d.Struct name vars fields))
     (sum : (name : List ℕ) (vars : List (List ℕ)) (cons : List Con) → of (Sum vars cons) ≡ at (d.Sum name vars cons)) where
+  abbrev SameType : Composite → Def → Type 0
+  SameType c def = of c ≡ at def
+
+  type_alike : (x : List ℕ) (def : Def) → Alike SameType (type_here x def) (def_here type_name x def)
+  type_alike x (d.Struct name vars fields) = where_named SameType (bytes_eq name x) (Struct vars fields) (d.Struct name vars fields) (struct name vars fields)
+  type_alike x (d.Sum name vars cons) = where_named SameType (bytes_eq name x) (Sum vars cons) (d.Sum name vars cons) (sum name vars cons)
+  type_alike x (d.Table name ty nums) = tt
+  type_alike x (d.Fun name vars params result body) = tt
+  type_alike x (d.Entry name) = tt
+
   type_first : (defs : List Def) (x : List ℕ) → (type_named defs x >>= of) ≡ (first_of k.Type defs x >>= at)
-  type_first [] x = refl
-  type_first (d.Struct name vars fields ∷ defs) x = go (bytes_eq name x) (type_first defs x)
-    where
-      go : (b : Bool) → (type_named defs x >>= of) ≡ (first_of k.Type defs x >>= at)
-          → ((if b then Some (Struct vars fields) else type_named defs x) >>= of) ≡ ((if (b || false) then Some (d.Struct name vars fields) else first_of k.Type defs x) >>= at)
-      go true later = struct name vars fields
-      go false later = later
-  type_first (d.Sum name vars cons ∷ defs) x = go (bytes_eq name x) (type_first defs x)
-    where
-      go : (b : Bool) → (type_named defs x >>= of) ≡ (first_of k.Type defs x >>= at)
-          → ((if b then Some (Sum vars cons) else type_named defs x) >>= of) ≡ ((if (b || false) then Some (d.Sum name vars cons) else first_of k.Type defs x) >>= at)
-      go true later = sum name vars cons
-      go false later = later
-  type_first (d.Table name ty nums ∷ defs) x = type_first defs x
-  type_first (d.Fun name vars params result body ∷ defs) x = type_first defs x
-  type_first (d.Entry name ∷ defs) x = type_first defs x
+  type_first defs x = alike_then of at (type_named defs x) (first_of k.Type defs x) (first_alike SameType (type_here x) (def_here type_name x) (type_alike x) defs)
 
 pub struct_first : (defs : List Def) (x : List ℕ) → struct_named defs x ≡ (first_of k.Type defs x >>= struct_at)
 struct_first = type_first struct_of struct_at (λ name vars fields. refl) (λ name vars cons. refl)
@@ -83,56 +78,58 @@ mapped f None = refl
 pub vars_first : (defs : List Def) (x : List ℕ) → vars_named defs x ≡ (first_of k.Type defs x >>= vars_at)
 vars_first defs x = mapped vars_of (type_named defs x) ∙ type_first (λ c. Some (vars_of c)) vars_at (λ name vars fields. refl) (λ name vars cons. refl) defs x
 
+-- a law of the other kinds
+module _ {A : Type 0} (names : Def → List (List ℕ)) (here : List ℕ → Def → Option A) (at : List ℕ → Def → Option A)
+    (alike : (x : List ℕ) (def : Def) → Alike (λ a def. Some a ≡ at x def) (here x def) (def_here names x def)) where
+  by_first : (defs : List Def) (x : List ℕ) → first (here x) defs ≡ (first_in names defs x >>= at x)
+  by_first defs x = alike_is (at x) (first (here x) defs) (first_in names defs x) (first_alike (λ a def. Some a ≡ at x def) (here x) (def_here names x) (alike x) defs)
+
 -- a constructor is found where its name is given
 con_there : (cons : List Con) (x : List ℕ) → is_among (cons_of cons) x ≡ is_some (con_in cons x)
 con_there [] x = refl
 con_there (c ∷ cons) x = go (bytes_eq c.name x) (con_there cons x)
   where
-    go : (b : Bool) → is_among (cons_of cons) x ≡ is_some (con_in cons x) → (b || is_among (cons_of cons) x) ≡ is_some (if b then Some c.args else con_in cons x)
+    go : (b : Bool) → is_among (cons_of cons) x ≡ is_some (con_in cons x) → (b || is_among (cons_of cons) x) ≡ is_some (option_or (if b then Some c.args else None) (con_in cons x))
     go true later = refl
     go false later = later
 
-pub con_first : (defs : List Def) (x : List ℕ) → con_named defs x ≡ (first_of k.Con defs x >>= con_at x)
-con_first [] x = refl
-con_first (d.Sum name vars cons ∷ defs) x = go (con_in cons x) refl (is_among (cons_of cons) x) (con_there cons x) (con_first defs x)
+con_alike : (x : List ℕ) (def : Def) → Alike (λ c def. Some c ≡ con_here x def) (con_here x def) (def_here con_names x def)
+con_alike x (d.Sum name vars cons) = go (con_in cons x) refl (is_among (cons_of cons) x) (con_there cons x)
   where
-    go : (o : Option (List Ty)) → con_in cons x ≡ o → (b : Bool) → b ≡ is_some (con_in cons x) → con_named defs x ≡ (first_of k.Con defs x >>= con_at x)
-        → con_or name vars o (con_named defs x) ≡ ((if b then Some (d.Sum name vars cons) else first_of k.Con defs x) >>= con_at x)
-    go (Some args) is true e later = sym (ap (option_map (con_from name vars)) is)
-    go (Some args) is false e later = let bad : false ≡ true = e ∙ ap is_some is in absurd (cc)
-    go None is true e later = let bad : true ≡ false = e ∙ ap is_some is in absurd (cc)
-    go None is false e later = later
-con_first (d.Struct name vars fields ∷ defs) x = con_first defs x
-con_first (d.Table name ty nums ∷ defs) x = con_first defs x
-con_first (d.Fun name vars params result body ∷ defs) x = con_first defs x
-con_first (d.Entry name ∷ defs) x = con_first defs x
+    go : (o : Option (List Ty)) → con_in cons x ≡ o → (b : Bool) → b ≡ is_some (con_in cons x)
+        → Alike (λ c def. Some c ≡ con_here x def) (option_map (con_from name vars) o) (if b then Some (d.Sum name vars cons) else None)
+    go (Some args) is true e = sym (ap (option_map (con_from name vars)) is)
+    go (Some args) is false e = let bad : false ≡ true = e ∙ ap is_some is in absurd (cc)
+    go None is true e = let bad : true ≡ false = e ∙ ap is_some is in absurd (cc)
+    go None is false e = tt
+con_alike x (d.Struct name vars fields) = tt
+con_alike x (d.Table name ty nums) = tt
+con_alike x (d.Fun name vars params result body) = tt
+con_alike x (d.Entry name) = tt
+
+pub con_first : (defs : List Def) (x : List ℕ) → con_named defs x ≡ (first_of k.Con defs x >>= con_here x)
+con_first = by_first con_names con_here con_here con_alike
+
+table_alike : (x : List ℕ) (def : Def) → Alike (λ i def. Some i ≡ table_at def) (table_here x def) (def_here table_name x def)
+table_alike x (d.Table name ty nums) = where_named (λ i def. Some i ≡ table_at def) (bytes_eq name x) ty (d.Table name ty nums) refl
+table_alike x (d.Struct name vars fields) = tt
+table_alike x (d.Sum name vars cons) = tt
+table_alike x (d.Fun name vars params result body) = tt
+table_alike x (d.Entry name) = tt
 
 pub table_first : (defs : List Def) (x : List ℕ) → table_named defs x ≡ (first_of k.Table defs x >>= table_at)
-table_first [] x = refl
-table_first (d.Table name ty nums ∷ defs) x = go (bytes_eq name x) (table_first defs x)
-  where
-    go : (b : Bool) → table_named defs x ≡ (first_of k.Table defs x >>= table_at)
-        → (if b then Some ty else table_named defs x) ≡ ((if (b || false) then Some (d.Table name ty nums) else first_of k.Table defs x) >>= table_at)
-    go true later = refl
-    go false later = later
-table_first (d.Struct name vars fields ∷ defs) x = table_first defs x
-table_first (d.Sum name vars cons ∷ defs) x = table_first defs x
-table_first (d.Fun name vars params result body ∷ defs) x = table_first defs x
-table_first (d.Entry name ∷ defs) x = table_first defs x
+table_first = by_first table_name table_here (λ x. table_at) table_alike
+
+fun_alike : (x : List ℕ) (def : Def) → Alike (λ f def. Some f ≡ fun_at def) (fun_here x def) (def_here fun_name x def)
+fun_alike x (d.Fun name vars params result body) =
+    where_named (λ f def. Some f ≡ fun_at def) (bytes_eq name x) (record { vars = vars; params = params; result = result }) (d.Fun name vars params result body) refl
+fun_alike x (d.Struct name vars fields) = tt
+fun_alike x (d.Sum name vars cons) = tt
+fun_alike x (d.Table name ty nums) = tt
+fun_alike x (d.Entry name) = tt
 
 pub fun_first : (defs : List Def) (x : List ℕ) → fun_named defs x ≡ (first_of k.Fun defs x >>= fun_at)
-fun_first [] x = refl
-fun_first (d.Fun name vars params result body ∷ defs) x = go (bytes_eq name x) (fun_first defs x)
-  where
-    go : (b : Bool) → fun_named defs x ≡ (first_of k.Fun defs x >>= fun_at)
-        → (if b then Some (record { vars = vars; params = params; result = result }) else fun_named defs x)
-        ≡ ((if (b || false) then Some (d.Fun name vars params result body) else first_of k.Fun defs x) >>= fun_at)
-    go true later = refl
-    go false later = later
-fun_first (d.Struct name vars fields ∷ defs) x = fun_first defs x
-fun_first (d.Sum name vars cons ∷ defs) x = fun_first defs x
-fun_first (d.Table name ty nums ∷ defs) x = fun_first defs x
-fun_first (d.Entry name ∷ defs) x = fun_first defs x
+fun_first = by_first fun_name fun_here (λ x. fun_at) fun_alike
 
 -- ---- one definition more
 
@@ -147,13 +144,16 @@ one_later None false j = refl
 
 place_last : (names : Def → List (List ℕ)) (before : List Def) (def : Def) (x : List ℕ)
     → place_in names (before ++ def ∷ []) x ≡ place_or (place_in names before x) (is_among (names def) x) (length before)
-place_last names [] def x = refl
-place_last names (other ∷ before) def x = go (is_among (names other) x)
-    (ap (option_map suc) (place_last names before def x) ∙ one_later (place_in names before x) (is_among (names def) x) (length before))
+place_last names [] def x = or_none (if is_among (names def) x then Some 0 else None)
+place_last names (other ∷ before) def x =
+    place_next has other (before ++ def ∷ []) ∙ go (has other) (ap (option_map suc) (place_last names before def x) ∙ one_later (place_in names before x) (has def) (length before))
+    ∙ ap (λ o. place_or o (has def) (suc (length before))) (sym (place_next has other before))
   where
-    go : (c : Bool) → option_map suc (place_in names (before ++ def ∷ []) x) ≡ place_or (option_map suc (place_in names before x)) (is_among (names def) x) (suc (length before))
-        → (if c then Some 0 else option_map suc (place_in names (before ++ def ∷ []) x))
-        ≡ place_or (if c then Some 0 else option_map suc (place_in names before x)) (is_among (names def) x) (suc (length before))
+    has : Def → Bool
+    has def = is_among (names def) x
+
+    go : (c : Bool) → option_map suc (place_in names (before ++ def ∷ []) x) ≡ place_or (option_map suc (place_in names before x)) (has def) (suc (length before))
+        → (if c then Some 0 else option_map suc (place_in names (before ++ def ∷ []) x)) ≡ place_or (if c then Some 0 else option_map suc (place_in names before x)) (has def) (suc (length before))
     go true later = refl
     go false later = later
 

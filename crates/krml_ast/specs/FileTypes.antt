@@ -4,6 +4,7 @@ use Rattle.std.specs.Prelude.{◌≡◌, ℕ, ◌<◌, ◌≤◌, ◌^◌, List,
 use Rattle.std.specs.List.{AllByRecursion, IsDistinct, flat_map}
 use Rattle.std.specs.Str.{bytes_eq}
 use Rattle.std.specs.Fmt.{decimal}
+use Rattle.krml_trace.specs.First.{first}
 use Rattle.krml_trace.specs.Limits.{max_elements}
 use Rattle.krml_syntax.specs.declared.tree.IntTy.{IntTy}
 use Rattle.krml_syntax.specs.declared.tree.Ty.{Ty, out-Ty}
@@ -240,9 +241,11 @@ pub record IsHoisted (file : SourceFile) : Type 0 where
   pub named : AreNamed IsSourceName IsSourceName IsName IsSourceName IsName IsVariable file.defs
 
 -- the emitted name of an entry
+abbrev pub emitted_here : List ℕ → Emitted → Option (List ℕ)
+emitted_here x pair = if bytes_eq pair.entry x then Some pair.name else None
+
 abbrev pub emitted_name : List Emitted → List ℕ → Option (List ℕ)
-emitted_name [] x = None
-emitted_name (pair ∷ names) x = if bytes_eq pair.entry x then Some pair.name else emitted_name names x
+emitted_name names x = first (emitted_here x) names
 
 -- a name as C has it
 abbrev pub IsEmitted : (plain numbered : List ℕ) → List ℕ → Type 0

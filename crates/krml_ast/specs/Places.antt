@@ -1,6 +1,7 @@
 -- The places of names in a file: of each kind, the first definition that gives the name.
-use Rattle.std.specs.Prelude.{ℕ, suc, Bool, false, ◌||◌, if◌then◌else◌, List, [], ◌∷◌, map, Option, Some, None, option_map}
+use Rattle.std.specs.Prelude.{ℕ, Bool, false, ◌||◌, if◌then◌else◌, List, [], ◌∷◌, map, Option, Some, None}
 use Rattle.std.specs.Str.{bytes_eq}
+use Rattle.krml_trace.specs.First.{first, first_place}
 use Rattle.krml_syntax.specs.declared.tree.IntTy.{IntTy}
 use Rattle.krml_syntax.specs.declared.tree.Ty.{Ty}
 use Rattle.krml_syntax.specs.declared.tree.Field.{Field}
@@ -9,7 +10,7 @@ use Rattle.krml_syntax.specs.declared.tree.Def.{Def}
 use Rattle.krml_syntax.specs.declared.tree.Def.TheVariants as d
 use Rattle.krml_ast.specs.declared.kind.NameKind.{NameKind}
 use Rattle.krml_ast.specs.declared.kind.NameKind.TheVariants as k
-use Rattle.krml_ast.specs.Names.{Constructor, Signature, con_in}
+use Rattle.krml_ast.specs.Names.{Signature}
 use Rattle.krml_ast.specs.WellTyped.{type_name, con_names, table_name, fun_name, entry_name}
 
 -- whether one of the names is this one
@@ -30,16 +31,17 @@ names_in k.Entry = entry_name
 
 -- the place of the first definition that gives a name
 abbrev pub place_in : (Def → List (List ℕ)) → List Def → List ℕ → Option ℕ
-place_in names [] x = None
-place_in names (def ∷ defs) x = if is_among (names def) x then Some 0 else option_map suc (place_in names defs x)
+place_in names defs x = first_place (λ def. is_among (names def) x) defs
 
 abbrev pub place_of : NameKind → List Def → List ℕ → Option ℕ
 place_of kind defs x = place_in (names_in kind) defs x
 
 -- the first definition that gives a name
+abbrev pub def_here : (Def → List (List ℕ)) → List ℕ → Def → Option Def
+def_here names x def = if is_among (names def) x then Some def else None
+
 abbrev pub first_in : (Def → List (List ℕ)) → List Def → List ℕ → Option Def
-first_in names [] x = None
-first_in names (def ∷ defs) x = if is_among (names def) x then Some def else first_in names defs x
+first_in names defs x = first (def_here names x) defs
 
 abbrev pub first_of : NameKind → List Def → List ℕ → Option Def
 first_of kind defs x = first_in (names_in kind) defs x
@@ -63,13 +65,6 @@ struct_at _ = None
 abbrev pub sum_at : Def → Option (List (List ℕ) × List Con)
 sum_at (d.Sum name vars cons) = Some (vars, cons)
 sum_at _ = None
-
-abbrev pub con_from : List ℕ → List (List ℕ) → List Ty → Constructor
-con_from sum vars args = record { sum = sum; vars = vars; args = args }
-
-abbrev pub con_at : List ℕ → Def → Option Constructor
-con_at x (d.Sum name vars cons) = option_map (con_from name vars) (con_in cons x)
-con_at x _ = None
 
 abbrev pub table_at : Def → Option IntTy
 table_at (d.Table name ty nums) = Some ty

@@ -1,6 +1,7 @@
 pub mod After
 pub mod Bind
 pub mod Blocks
+pub mod First
 pub mod Follows
 pub mod Levels
 pub mod Lists

@@ -2,6 +2,7 @@ pub mod After
 pub mod Argument
 pub mod Blocks
 pub mod Byte
+pub mod First
 pub mod Follows
 pub mod Gives
 pub mod Host

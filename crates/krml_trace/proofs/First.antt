@@ -1,0 +1,148 @@
+-- The first item of a list that has an answer: where it stands, and the same look-up in other lists and by other answers.
+use Rattle.std.proofs.Common.{◌≡◌, ℕ, zero, suc, ◌+◌, Bool, true, false, if◌then◌else◌, List, [], ◌∷◌, ◌++◌, map, length, take, slice_get, flat_map, Option, Some, None, ◌⊎◌, inl, inr, option_map, option_and_then, refl, sym, ap, ◌∙◌, arith}
+use Rattle.std.specs.Option.{option_or}
+use Rattle.krml_trace.specs.First.{first, numbered, place_if, first_place}
+
+-- ---- answers
+
+-- two answers of a kind, or none
+abbrev pub Alike : {X Y : Type 0} → (X → Y → Type 0) → Option X → Option Y → Type 0
+Alike R (Some v) (Some w) = R v w
+Alike R (Some v) None = ⊥
+Alike R None (Some w) = ⊥
+Alike R None None = Unit {0}
+
+pub or_none : {X : Type 0} (o : Option X) → option_or o None ≡ o
+or_none (Some v) = refl
+or_none None = refl
+
+pub or_or : {X : Type 0} (o p q : Option X) → option_or (option_or o p) q ≡ option_or o (option_or p q)
+or_or (Some v) p q = refl
+or_or None p q = refl
+
+pub or_map : {X Y : Type 0} (f : X → Y) (o p : Option X) → option_map f (option_or o p) ≡ option_or (option_map f o) (option_map f p)
+or_map f (Some v) p = refl
+or_map f None p = refl
+
+-- ---- the item that answers
+
+module _ {A X : Type 0} (give : A → Option X) where
+  -- The item of an answer, with its place. None before it answers.
+  pub record Answers (xs : List A) (v : X) : Type 0 where
+    pub place : ℕ
+    pub item : A
+    pub there : slice_get xs place ≡ Some item
+    pub gives : give item ≡ Some v
+    pub earlier : first give (take place xs) ≡ None
+
+  pub answers : (xs : List A) (v : X) → first give xs ≡ Some v → Answers xs v
+  answers [] v e = absurd (cc)
+  answers (a ∷ xs) v e = go (give a) refl e (answers xs v)
+    where
+      go : (o : Option X) → give a ≡ o → option_or o (first give xs) ≡ Some v → (first give xs ≡ Some v → Answers xs v) → Answers (a ∷ xs) v
+      go (Some w) q e' later = record { place = 0; item = a; there = refl; gives = q ∙ e'; earlier = refl }
+      go None q e' later =
+          let l = later e' in
+          record { place = suc l.place; item = l.item; there = l.there; gives = l.gives; earlier = ap (λ o. option_or o (first give (take l.place xs))) q ∙ l.earlier }
+
+  -- where no item answers, there is no answer
+  pub no_answer : (xs : List A) → ((k : ℕ) (a : A) → slice_get xs k ≡ Some a → give a ≡ None) → first give xs ≡ None
+  no_answer [] h = refl
+  no_answer (a ∷ xs) h = ap (λ o. option_or o (first give xs)) (h 0 a refl) ∙ no_answer xs (λ k b e. h (suc k) b e)
+
+  -- the answers of two lists, one behind the other
+  pub first_more : (before after : List A) → first give (before ++ after) ≡ option_or (first give before) (first give after)
+  first_more [] after = refl
+  first_more (a ∷ before) after = ap (option_or (give a)) (first_more before after) ∙ sym (or_or (give a) (first give before) (first give after))
+
+  pub first_kept : (before after : List A) (v : X) → first give before ≡ Some v → first give (before ++ after) ≡ Some v
+  first_kept before after v e = first_more before after ∙ ap (λ o. option_or o (first give after)) e
+
+  pub first_later : (before after : List A) → first give before ≡ None → first give (before ++ after) ≡ first give after
+  first_later before after e = first_more before after ∙ ap (λ o. option_or o (first give after)) e
+
+  -- an answer is the first list's, or the second's where the first has none
+  pub first_either : (before after : List A) (v : X) → first give (before ++ after) ≡ Some v
+      → (first give before ≡ Some v) ⊎ ((first give before ≡ None) × (first give after ≡ Some v))
+  first_either before after v e = go (first give before) refl (sym (first_more before after) ∙ e)
+    where
+      go : (o : Option X) → first give before ≡ o → option_or o (first give after) ≡ Some v → (o ≡ Some v) ⊎ ((o ≡ None) × (first give after ≡ Some v))
+      go (Some w) q e' = inl e'
+      go None q e' = inr (refl, e')
+
+-- ---- other lists, and other answers
+
+pub first_map : {A B X : Type 0} (give : B → Option X) (f : A → B) (xs : List A) → first give (map f xs) ≡ first (λ a. give (f a)) xs
+first_map give f [] = refl
+first_map give f (a ∷ xs) = ap (option_or (give (f a))) (first_map give f xs)
+
+pub map_first : {A X Y : Type 0} (f : X → Y) (give : A → Option X) (xs : List A) → option_map f (first give xs) ≡ first (λ a. option_map f (give a)) xs
+map_first f give [] = refl
+map_first f give (a ∷ xs) = or_map f (give a) (first give xs) ∙ ap (option_or (option_map f (give a))) (map_first f give xs)
+
+pub first_same : {A X : Type 0} (give take : A → Option X) (xs : List A) → ((a : A) → give a ≡ take a) → first give xs ≡ first take xs
+first_same give take [] h = refl
+first_same give take (a ∷ xs) h = ap (λ o. option_or o (first give xs)) (h a) ∙ ap (option_or (take a)) (first_same give take xs h)
+
+pub first_flat : {A B X : Type 0} (give : B → Option X) (f : A → List B) (xs : List A) → first give (flat_map f xs) ≡ first (λ a. first give (f a)) xs
+first_flat give f [] = refl
+first_flat give f (a ∷ xs) = first_more give (f a) (flat_map f xs) ∙ ap (option_or (first give (f a))) (first_flat give f xs)
+
+-- answers alike of each item
+module _ {A X Y : Type 0} (R : X → Y → Type 0) (give : A → Option X) (take : A → Option Y) (alike : (a : A) → Alike R (give a) (take a)) where
+  pub first_alike : (xs : List A) → Alike R (first give xs) (first take xs)
+  first_alike [] = tt
+  first_alike (a ∷ xs) = go (give a) (take a) (alike a) (first_alike xs)
+    where
+      go : (o : Option X) (p : Option Y) → Alike R o p → Alike R (first give xs) (first take xs) → Alike R (option_or o (first give xs)) (option_or p (first take xs))
+      go (Some v) (Some w) r later = r
+      go (Some v) None r later = absurd r
+      go None (Some w) r later = absurd r
+      go None None r later = later
+
+module _ {X Y Z : Type 0} (f : X → Option Z) (g : Y → Option Z) where
+  pub alike_then : (o : Option X) (p : Option Y) → Alike (λ v w. f v ≡ g w) o p → option_and_then f o ≡ option_and_then g p
+  alike_then (Some v) (Some w) r = r
+  alike_then (Some v) None r = absurd r
+  alike_then None (Some w) r = absurd r
+  alike_then None None r = refl
+
+pub alike_is : {X Y : Type 0} (g : Y → Option X) (o : Option X) (p : Option Y) → Alike (λ v w. Some v ≡ g w) o p → o ≡ option_and_then g p
+alike_is g (Some v) (Some w) r = r
+alike_is g (Some v) None r = absurd r
+alike_is g None (Some w) r = absurd r
+alike_is g None None r = refl
+
+-- ---- places
+
+module _ {A : Type 0} (here : A → Bool) where
+  one_later : (k : ℕ) (xs : List A) → first (place_if here) (numbered (suc k) xs) ≡ option_map suc (first (place_if here) (numbered k xs))
+  one_later k [] = refl
+  one_later k (a ∷ xs) = go (here a) (one_later (suc k) xs)
+    where
+      go : (b : Bool) → first (place_if here) (numbered (suc (suc k)) xs) ≡ option_map suc (first (place_if here) (numbered (suc k) xs))
+          → option_or (if b then Some (suc k) else None) (first (place_if here) (numbered (suc (suc k)) xs))
+          ≡ option_map suc (option_or (if b then Some k else None) (first (place_if here) (numbered (suc k) xs)))
+      go true later = refl
+      go false later = later
+
+  pub place_next : (a : A) (xs : List A) → first_place here (a ∷ xs) ≡ (if here a then Some 0 else option_map suc (first_place here xs))
+  place_next a xs = go (here a)
+    where
+      go : (b : Bool) → option_or (if b then Some 0 else None) (first (place_if here) (numbered 1 xs)) ≡ (if b then Some 0 else option_map suc (first_place here xs))
+      go true = refl
+      go false = one_later 0 xs
+
+  -- what stands at the first place
+  pub place_stands : (xs : List A) → option_and_then (slice_get xs) (first_place here xs) ≡ first (λ a. if here a then Some a else None) xs
+  place_stands [] = refl
+  place_stands (a ∷ xs) = ap (option_and_then (slice_get (a ∷ xs))) (place_next a xs) ∙ go (here a) (next (first_place here xs) ∙ place_stands xs)
+    where
+      next : (o : Option ℕ) → option_and_then (slice_get (a ∷ xs)) (option_map suc o) ≡ option_and_then (slice_get xs) o
+      next (Some k) = refl
+      next None = refl
+
+      go : (b : Bool) → option_and_then (slice_get (a ∷ xs)) (option_map suc (first_place here xs)) ≡ first (λ a. if here a then Some a else None) xs
+          → option_and_then (slice_get (a ∷ xs)) (if b then Some 0 else option_map suc (first_place here xs)) ≡ option_or (if b then Some a else None) (first (λ a. if here a then Some a else None) xs)
+      go true later = refl
+      go false later = later
