@@ -1,7 +1,7 @@
 -- Types of a file's first definitions, whose own types are well formed, are so in the whole file, and hold buffers as there.
-use Rattle.std.proofs.Common.{◌≡◌, ℕ, List, [], ◌∷◌, ◌++◌, Option, Some, ap, ◌∙◌, subst}
+use Rattle.std.proofs.Common.{◌≡◌, ℕ, List, [], ◌∷◌, ◌++◌, Option, Some, None, ◌⊎◌, inl, inr, ap, ◌∙◌, subst}
 use Rattle.std.specs.List.{Contains}
-use Rattle.krml_trace.proofs.First.{first_kept}
+use Rattle.krml_trace.proofs.First.{first_kept, first_last}
 use Rattle.krml_syntax.specs.declared.tree.Ty.{Ty, out-Ty}
 use Rattle.krml_syntax.specs.declared.tree.Ty.TheOpen.{Ty-F}
 use Rattle.krml_syntax.specs.declared.tree.Ty.TheVariants as t
@@ -21,6 +21,14 @@ none_settled = record { fields = λ x vars fields f is has. absurd (cc) }
 
 pub named_more : (before after : List Def) (x : List ℕ) (c : Composite) → type_named before x ≡ Some c → type_named (before ++ after) x ≡ Some c
 named_more before after x c = first_kept (type_here x) before after c
+
+-- a name means something earlier, or the last definition
+pub named_last : (before : List Def) (def : Def) (x : List ℕ) (c : Composite) → type_named (before ++ def ∷ []) x ≡ Some c → (type_named before x ≡ Some c) ⊎ (type_here x def ≡ Some c)
+named_last before def x c e = go (first_last (type_here x) before def c e)
+  where
+    go : (type_named before x ≡ Some c) ⊎ ((type_named before x ≡ None) × (type_here x def ≡ Some c)) → (type_named before x ≡ Some c) ⊎ (type_here x def ≡ Some c)
+    go (inl q) = inl q
+    go (inr q) = inr q.1
 
 -- ---- the parts of a well formed type
 

@@ -3,6 +3,7 @@ pub mod Earlier
 pub mod Firsts
 pub mod Labelled
 pub mod LabelledTypes
+pub mod Named
 pub mod Pieces
 pub mod Roles
 pub mod Scopes

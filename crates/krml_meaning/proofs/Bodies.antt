@@ -1,5 +1,6 @@
 -- A file whose forms can run: each body keeps what a run takes of the forms in it.
 use Rattle.std.proofs.Common.{◌≡◌, ℕ, Bool, true, false, if◌then◌else◌, List, [], ◌∷◌, ◌++◌, map, flat_map, slice_get, Some, None, subst}
+use Rattle.std.specs.Option.{option_or}
 use Rattle.std.specs.List.{AllByRecursion}
 use Rattle.std.specs.Str.{bytes_eq}
 use Rattle.krml_syntax.specs.declared.tree.Ty.{Ty}
@@ -173,7 +174,7 @@ module _ (defs : List Def) (typed : AreWellTyped defs) where
           let names : List Piece = map (λ (z : Field). Bound z.name) params in
           right_run (field_types params ++ names ++ pieces_of_ty result) (pieces_of body) here
 
-      go : (b : Bool) → (if b then Some (record { tvars = vars; params = params; body = body }) else function_named ds x) ≡ Some f
+      go : (b : Bool) → option_or (if b then Some (record { tvars = vars; params = params; body = body }) else None) (function_named ds x) ≡ Some f
           → (function_named ds x ≡ Some f → Run (pieces_of f.body)) → Run (pieces_of f.body)
       go true q' later = subst (λ (z : Function). Run (pieces_of z.body)) (same_some (record { tvars = vars; params = params; body = body }) f q') mine
       go false q' later = later q'

@@ -1,10 +1,14 @@
 -- What a well typed file gives to runs.
-use Rattle.std.proofs.Common.{◌≡◌, ℕ, suc, ◌+◌, ◌<◌, ◌^◌, Bool, true, false, if◌then◌else◌, List, [], ◌∷◌, ◌++◌, map, length, take, slice_get, flat_map, Option, Some, None, ◌⊎◌, inl, inr, Contains, refl, sym, ap, ◌∙◌, subst, arith, append_assoc, append-nil}
+use Rattle.std.proofs.Common.{◌≡◌, ℕ, suc, ◌+◌, ◌<◌, ◌^◌, Bool, true, false, if◌then◌else◌, List, [], ◌∷◌, ◌++◌, map, length, take, slice_get, flat_map, Option, Some, None, option_map, ◌⊎◌, inl, inr, Contains, refl, sym, ap, ◌∙◌, subst, arith, append_assoc, append-nil}
 use Rattle.std.specs.List.{AllByRecursion, IsDistinct}
+use Rattle.std.specs.Option.{option_or}
 use Rattle.std.specs.Str.{bytes_eq}
+use Rattle.std.proofs.lemmas.List.Elements.{Contains-append_left, Contains-append_right}
 use Rattle.std.proofs.lemmas.Slice.Eq.{bytes_eq-Decides}
 use Rattle.krml_trace.specs.Width.{bits}
-use Rattle.krml_trace.proofs.Lists.{take_front, at_front, contains_first, contains_later}
+use Rattle.krml_trace.specs.First.{numbered}
+use Rattle.krml_trace.proofs.First.{or_none, answers, first_kept, first_later, first_last, not_if, not_map, silent_too, same_item, first_numbered, get_numbered}
+use Rattle.krml_trace.proofs.Lists.{take_front, at_front, contains_first}
 use Rattle.krml_syntax.specs.declared.tree.IntTy.{IntTy}
 use Rattle.krml_syntax.specs.declared.tree.Ty.{Ty}
 use Rattle.krml_syntax.specs.declared.tree.Field.{Field}
@@ -12,16 +16,17 @@ use Rattle.krml_syntax.specs.declared.tree.Con.{Con}
 use Rattle.krml_syntax.specs.declared.tree.Expr.{Expr}
 use Rattle.krml_syntax.specs.declared.tree.Def.{Def}
 use Rattle.krml_syntax.specs.declared.tree.Def.TheVariants as d
-use Rattle.krml_ast.specs.Names.{Struct, Sum, Constructor, Signature, con_in, con_or, type_named, con_named, table_named, fun_named}
+use Rattle.krml_ast.specs.Names.{Struct, Sum, Constructor, Signature, args_here, con_in, con_from, con_here, type_here, type_named, con_named, table_here, table_named, fun_here, fun_named}
 use Rattle.krml_syntax.specs.Types.{erased}
 use Rattle.krml_ast.specs.IsType.{IsValue, IsFlat, IsType}
 use Rattle.krml_ast.specs.Typing.{IsResult, HasType}
 use Rattle.krml_ast.specs.WellTyped.{type_name, names_of, WellTyped, AreWellTyped}
 use Rattle.krml_ast.proofs.Earlier.{named_more, named_last}
-use Rattle.krml_meaning.specs.Meaning.{Function, Table, place_in, place_or, con_place, table_from, function_named}
+use Rattle.krml_ast.proofs.Named.{answer_of, is_struct, is_sum, is_table, is_fun}
+use Rattle.krml_meaning.specs.Meaning.{place_here, place_in, con_place_here, con_place, table_at, function_here, function_named}
 use Rattle.krml_meaning.proofs.Lists.{same_some, no_some, each_get, each_so}
 use Rattle.krml_meaning.proofs.Earlier.{Settled, none_settled, fields_more, cons_more}
-use Rattle.krml_meaning.proofs.Facts.{InSum, IsFunction, Facts, same_struct, same_sum}
+use Rattle.krml_meaning.proofs.Facts.{InSum, InTable, IsFunction, Facts}
 use Rattle.krml_meaning.proofs.Types.{name_same}
 
 -- ---- places
@@ -30,47 +35,26 @@ each_by_get : {A : Type 0} (P : A → Type 0) (xs : List A) → ((k : ℕ) (x : 
 each_by_get P [] h = tt
 each_by_get P (x ∷ xs) h = (h 0 x refl, each_by_get P xs (λ k y e. h (suc k) y e))
 
+-- where the name is asked for, the answer is there
+here_is : {A : Type 0} (x : List ℕ) (a : A) → (if bytes_eq x x then Some a else None) ≡ Some a
+here_is x a = ap (λ (b : Bool). if b then Some a else None) (name_same x)
+
+other : {A : Type 0} (name x : List ℕ) (a : A) → (Contains (name ∷ []) x → ⊥) → (if bytes_eq name x then Some a else None) ≡ None
+other name x a absent = go (bytes_eq name x) refl
+  where
+    go : (b : Bool) → bytes_eq name x ≡ b → (if b then Some a else None) ≡ None
+    go true q = absurd (absent (subst (Contains (name ∷ [])) ((bytes_eq-Decides name x).0 q) (contains_first name [])))
+    go false q = refl
+
 -- ---- structs and sums
 
-pub new_fields : (defs before : List Def) (def : Def) (x : List ℕ) (vars : List (List ℕ)) (fields : List Field)
-    → WellTyped defs before def → type_named (def ∷ []) x ≡ Some (Struct vars fields) → AllByRecursion (λ f. IsType before vars f.ty) fields
-new_fields defs before def x vars fields (WellTyped.struct {x = y} {vars = vars'} {fields = fields'} new vs fs ok) is = go (bytes_eq y x) is
-  where
-    go : (b : Bool) → (if b then Some (Struct vars' fields') else None) ≡ Some (Struct vars fields) → AllByRecursion (λ f. IsType before vars f.ty) fields
-    go true e =
-        let same = same_struct vars' vars fields' fields (same_some (Struct vars' fields') (Struct vars fields) e) in
-        let types = each_so (λ f. IsType before vars' f.ty × IsValue f.ty) (λ f. IsType before vars' f.ty) fields' (λ f k. k.0) ok in
-        subst (λ z. AllByRecursion (λ f. IsType before z f.ty) fields) same.0 (subst (λ z. AllByRecursion (λ f. IsType before vars' f.ty) z) same.1 types)
-    go false e = absurd (cc)
-new_fields defs before def x vars fields (WellTyped.sum {x = y} {vars = vars'} {cons = cons} new cs vs ok) is = go (bytes_eq y x) is
-  where
-    go : (b : Bool) → (if b then Some (Sum vars' cons) else None) ≡ Some (Struct vars fields) → AllByRecursion (λ f. IsType before vars f.ty) fields
-    go true e = absurd (cc)
-    go false e = absurd (cc)
-new_fields defs before def x vars fields (WellTyped.table new ok) is = absurd (cc)
-new_fields defs before def x vars fields (WellTyped.fun new vs ps ok r res b) is = absurd (cc)
-new_fields defs before def x vars fields (WellTyped.entry new is' none ps ans) is = absurd (cc)
+pub new_fields : (defs before : List Def) (x : List ℕ) (vars : List (List ℕ)) (fields : List Field) → WellTyped defs before (d.Struct x vars fields)
+    → AllByRecursion (λ f. IsType before vars f.ty) fields
+new_fields defs before x vars fields (WellTyped.struct new vs fs ok) = each_so (λ f. IsType before vars f.ty × IsValue f.ty) (λ f. IsType before vars f.ty) fields (λ f k. k.0) ok
 
-pub new_cons : (defs before : List Def) (def : Def) (x : List ℕ) (vars : List (List ℕ)) (cons : List Con) → WellTyped defs before def → type_named (def ∷ []) x ≡ Some (Sum vars cons)
+pub new_cons : (defs before : List Def) (x : List ℕ) (vars : List (List ℕ)) (cons : List Con) → WellTyped defs before (d.Sum x vars cons)
     → AllByRecursion (λ c. AllByRecursion (λ a. IsType before vars a × IsFlat before a) c.args) cons
-new_cons defs before def x vars cons (WellTyped.sum {x = y} {vars = vars'} {cons = cons'} new cs vs ok) is = go (bytes_eq y x) is
-  where
-    go : (b : Bool) → (if b then Some (Sum vars' cons') else None) ≡ Some (Sum vars cons)
-        → AllByRecursion (λ c. AllByRecursion (λ a. IsType before vars a × IsFlat before a) c.args) cons
-    go true e =
-        let same = same_sum vars' vars cons' cons (same_some (Sum vars' cons') (Sum vars cons) e) in
-        subst (λ z. AllByRecursion (λ c. AllByRecursion (λ a. IsType before z a × IsFlat before a) c.args) cons) same.0
-        (subst (λ z. AllByRecursion (λ c. AllByRecursion (λ a. IsType before vars' a × IsFlat before a) c.args) z) same.1 ok)
-    go false e = absurd (cc)
-new_cons defs before def x vars cons (WellTyped.struct {x = y} {vars = vars'} {fields = fields} new vs fs ok) is = go (bytes_eq y x) is
-  where
-    go : (b : Bool) → (if b then Some (Struct vars' fields) else None) ≡ Some (Sum vars cons)
-        → AllByRecursion (λ c. AllByRecursion (λ a. IsType before vars a × IsFlat before a) c.args) cons
-    go true e = absurd (cc)
-    go false e = absurd (cc)
-new_cons defs before def x vars cons (WellTyped.table new ok) is = absurd (cc)
-new_cons defs before def x vars cons (WellTyped.fun new vs ps ok r res b) is = absurd (cc)
-new_cons defs before def x vars cons (WellTyped.entry new is' none ps ans) is = absurd (cc)
+new_cons defs before x vars cons (WellTyped.sum new cs vs ok) = ok
 
 pub settled_more : (defs before : List Def) (def : Def) → Settled before → WellTyped defs before def → Settled (before ++ def ∷ [])
 settled_more defs before def s w = record {
@@ -78,54 +62,41 @@ settled_more defs before def s w = record {
   cons = λ x vars cons is. sums x vars cons (named_last before def x (Sum vars cons) is);
 }
   where
-    go : (x : List ℕ) (vars : List (List ℕ)) (fields : List Field) → (type_named before x ≡ Some (Struct vars fields)) ⊎ (type_named (def ∷ []) x ≡ Some (Struct vars fields))
+    go : (x : List ℕ) (vars : List (List ℕ)) (fields : List Field) → (type_named before x ≡ Some (Struct vars fields)) ⊎ (type_here x def ≡ Some (Struct vars fields))
         → AllByRecursion (λ f. IsType (before ++ def ∷ []) vars f.ty) fields
     go x vars fields (inl is) = fields_more before (def ∷ []) s vars fields (s.fields x vars fields is)
-    go x vars fields (inr is) = fields_more before (def ∷ []) s vars fields (new_fields defs before def x vars fields w is)
+    go x vars fields (inr is) = fields_more before (def ∷ []) s vars fields (new_fields defs before x vars fields (subst (WellTyped defs before) (is_struct x vars fields def is) w))
 
-    sums : (x : List ℕ) (vars : List (List ℕ)) (cons : List Con) → (type_named before x ≡ Some (Sum vars cons)) ⊎ (type_named (def ∷ []) x ≡ Some (Sum vars cons))
+    sums : (x : List ℕ) (vars : List (List ℕ)) (cons : List Con) → (type_named before x ≡ Some (Sum vars cons)) ⊎ (type_here x def ≡ Some (Sum vars cons))
         → AllByRecursion (λ c. AllByRecursion (λ a. IsType (before ++ def ∷ []) vars a × IsFlat (before ++ def ∷ []) a) c.args) cons
     sums x vars cons (inl is) = cons_more before (def ∷ []) s vars cons (s.cons x vars cons is)
-    sums x vars cons (inr is) = cons_more before (def ∷ []) s vars cons (new_cons defs before def x vars cons w is)
+    sums x vars cons (inr is) = cons_more before (def ∷ []) s vars cons (new_cons defs before x vars cons (subst (WellTyped defs before) (is_sum x vars cons def is) w))
 
 -- ---- tables
 
-abbrev TableFits : Def → Type 0
-TableFits (d.Table x i nums) = AllByRecursion (λ n. n < 2 ^ bits i.width) nums
-TableFits _ = Unit {0}
+table_fits : (defs before : List Def) (x : List ℕ) (i : IntTy) (nums : List ℕ) → WellTyped defs before (d.Table x i nums) → AllByRecursion (λ n. n < 2 ^ bits i.width) nums
+table_fits defs before x i nums (WellTyped.table new ok) = ok
 
-table_fits : (defs before : List Def) (def : Def) → WellTyped defs before def → TableFits def
-table_fits defs before def (WellTyped.table new ok) = ok
-table_fits defs before def (WellTyped.struct new vs fs ok) = tt
-table_fits defs before def (WellTyped.sum new cs vs ok) = tt
-table_fits defs before def (WellTyped.fun new vs ps ok r res b) = tt
-table_fits defs before def (WellTyped.entry new is' none ps ans) = tt
+-- where a definition is no table of the name for its type, it is none for its numbers
+no_table : (x : List ℕ) (p : ℕ × Def) → table_here x p.1 ≡ None → table_at p.0 x p.1 ≡ None
+no_table x (k, d.Table name ty nums) e = not_if (bytes_eq name x) ty _ e
+no_table x (k, d.Struct name vars fields) e = refl
+no_table x (k, d.Sum name vars cons) e = refl
+no_table x (k, d.Fun name vars params result body) e = refl
+no_table x (k, d.Entry name) e = refl
 
-pub record FoundTable (k : ℕ) (defs : List Def) (x : List ℕ) (i : IntTy) : Type 0 where
-  pub table : Table
-  pub is : table_from k defs x ≡ Some table
-  pub ty : table.ty ≡ i
-  pub fit : AllByRecursion (λ n. n < 2 ^ bits i.width) table.nums
-
-table_there : (k : ℕ) (defs : List Def) (x : List ℕ) (i : IntTy) → AllByRecursion TableFits defs → table_named defs x ≡ Some i → FoundTable k defs x i
-table_there k [] x i h e = absurd (no_some i e)
-table_there k (d.Table name ty nums ∷ defs) x i h e = go (bytes_eq name x) refl e (table_there (suc k) defs x i h.1)
-  where
-    go : (b : Bool) → bytes_eq name x ≡ b → (if b then Some ty else table_named defs x) ≡ Some i → (table_named defs x ≡ Some i → FoundTable (suc k) defs x i)
-        → FoundTable k (d.Table name ty nums ∷ defs) x i
-    go true q e' later =
-        let same : ty ≡ i = same_some ty i e' in
-        record {
-          table = record { place = k; ty = ty; nums = nums };
-          is = rw q refl;
-          ty = same;
-          fit = subst (λ (z : IntTy). AllByRecursion (λ n. n < 2 ^ bits z.width) nums) same h.0;
-        }
-    go false q e' later = let f = later e' in record { table = f.table; is = rw q f.is; ty = f.ty; fit = f.fit }
-table_there k (d.Struct name vars fields ∷ defs) x i h e = let f = table_there (suc k) defs x i h.1 e in record { table = f.table; is = f.is; ty = f.ty; fit = f.fit }
-table_there k (d.Sum name vars cons ∷ defs) x i h e = let f = table_there (suc k) defs x i h.1 e in record { table = f.table; is = f.is; ty = f.ty; fit = f.fit }
-table_there k (d.Fun name vars params result body ∷ defs) x i h e = let f = table_there (suc k) defs x i h.1 e in record { table = f.table; is = f.is; ty = f.ty; fit = f.fit }
-table_there k (d.Entry name ∷ defs) x i h e = let f = table_there (suc k) defs x i h.1 e in record { table = f.table; is = f.is; ty = f.ty; fit = f.fit }
+table_there : (defs : List Def) → AreWellTyped defs → (x : List ℕ) (i : IntTy) → table_named defs x ≡ Some i → InTable defs x i
+table_there defs typed x i e =
+    let a = answers (λ p. table_here x p.1) (numbered 0 defs) i (first_numbered (table_here x) 0 defs ∙ e) in
+    let k = is_table x i a.item.1 a.gives in
+    let s = get_numbered 0 defs a.place a.item a.there in
+    let is : table_at a.item.0 x a.item.1 ≡ Some (record { place = a.item.0; ty = i; nums = k.0 }) = ap (table_at a.item.0 x) k.1 ∙ here_is x _ in
+    record {
+      table = record { place = a.item.0; ty = i; nums = k.0 };
+      is = same_item (λ p. table_here x p.1) (λ p. table_at p.0 x p.1) (no_table x) (numbered 0 defs) i a _ is;
+      ty = refl;
+      fit = table_fits defs (take a.place defs) x i k.0 (typed a.place (d.Table x i k.0) (s.1 ∙ ap Some k.1));
+    }
 
 -- ---- functions
 
@@ -137,161 +108,92 @@ pub record FunTyped (defs : List Def) (vars : List (List ℕ)) (params : List Fi
   pub answers : IsResult defs result
   pub typed : HasType defs vars (record { vars = map (λ p. (p.name, erased p.ty)) params; frame = None }) body (erased result)
 
-abbrev FunFits : List Def → Def → Type 0
-FunFits defs (d.Fun x vars params result body) = FunTyped defs vars params result body
-FunFits defs _ = Unit {0}
-
-fun_fits : (defs before : List Def) (def : Def) → WellTyped defs before def → FunFits defs def
-fun_fits defs before def (WellTyped.fun {vars = vars} {params = params} new vs ps ok r res b) = record {
+fun_fits : (defs before : List Def) (x : List ℕ) (vars : List (List ℕ)) (params : List Field) (result : Ty) (body : Expr) → WellTyped defs before (d.Fun x vars params result body)
+    → FunTyped defs vars params result body
+fun_fits defs before x vars params result body (WellTyped.fun new vs ps ok r res b) = record {
   distinct = ps;
   each = each_so (λ p. IsType defs vars p.ty × IsValue p.ty) (λ p. IsType defs vars p.ty) params (λ p k. k.0) ok;
   gives = r;
   answers = res;
   typed = b;
 }
-fun_fits defs before def (WellTyped.struct new vs fs ok) = tt
-fun_fits defs before def (WellTyped.sum new cs vs ok) = tt
-fun_fits defs before def (WellTyped.table new ok) = tt
-fun_fits defs before def (WellTyped.entry new is' none ps ans) = tt
 
-pub record FoundFun (defs ds : List Def) (x : List ℕ) (f : Signature) : Type 0 where
-  pub body : Function
-  pub is : function_named ds x ≡ Some body
-  pub vars : body.tvars ≡ f.vars
-  pub params : body.params ≡ f.params
-  pub fits : FunTyped defs f.vars f.params f.result body.body
+-- where a definition is no function of the name for its signature, it is none for its body
+no_function : (x : List ℕ) (def : Def) → fun_here x def ≡ None → function_here x def ≡ None
+no_function x (d.Fun name vars params result body) e = not_if (bytes_eq name x) _ _ e
+no_function x (d.Struct name vars fields) e = refl
+no_function x (d.Sum name vars cons) e = refl
+no_function x (d.Table name ty nums) e = refl
+no_function x (d.Entry name) e = refl
 
-fun_there : (defs ds : List Def) (x : List ℕ) (f : Signature) → AllByRecursion (FunFits defs) ds → fun_named ds x ≡ Some f → FoundFun defs ds x f
-fun_there defs [] x f h e = absurd (no_some f e)
-fun_there defs (d.Fun name vars params result body ∷ ds) x f h e = go (bytes_eq name x) refl e (fun_there defs ds x f h.1)
-  where
-    go : (b : Bool) → bytes_eq name x ≡ b → (if b then Some (record { vars = vars; params = params; result = result }) else fun_named ds x) ≡ Some f
-        → (fun_named ds x ≡ Some f → FoundFun defs ds x f) → FoundFun defs (d.Fun name vars params result body ∷ ds) x f
-    go true q e' later =
-        let same : record { vars = vars; params = params; result = result } ≡ f = same_some (record { vars = vars; params = params; result = result }) f e' in
-        record {
-          body = record { tvars = vars; params = params; body = body };
-          is = rw q refl;
-          vars = ap (λ (z : Signature). z.vars) same;
-          params = ap (λ (z : Signature). z.params) same;
-          fits = subst (λ (z : Signature). FunTyped defs z.vars z.params z.result body) same h.0;
-        }
-    go false q e' later = let g = later e' in record { body = g.body; is = rw q g.is; vars = g.vars; params = g.params; fits = g.fits }
-fun_there defs (d.Struct name vars fields ∷ ds) x f h e = let g = fun_there defs ds x f h.1 e in record { body = g.body; is = g.is; vars = g.vars; params = g.params; fits = g.fits }
-fun_there defs (d.Sum name vars cons ∷ ds) x f h e = let g = fun_there defs ds x f h.1 e in record { body = g.body; is = g.is; vars = g.vars; params = g.params; fits = g.fits }
-fun_there defs (d.Table name ty nums ∷ ds) x f h e = let g = fun_there defs ds x f h.1 e in record { body = g.body; is = g.is; vars = g.vars; params = g.params; fits = g.fits }
-fun_there defs (d.Entry name ∷ ds) x f h e = let g = fun_there defs ds x f h.1 e in record { body = g.body; is = g.is; vars = g.vars; params = g.params; fits = g.fits }
+-- a function of a name, with its body
+pub record FoundFun (defs : List Def) (x : List ℕ) (f : Signature) : Type 0 where
+  pub place : ℕ
+  pub body : Expr
+  pub there : slice_get defs place ≡ Some (d.Fun x f.vars f.params f.result body)
+  pub is : function_named defs x ≡ Some (record { tvars = f.vars; params = f.params; body = body })
+
+pub fun_found : (defs : List Def) (x : List ℕ) (f : Signature) → fun_named defs x ≡ Some f → FoundFun defs x f
+fun_found defs x f e =
+    let a = answers (fun_here x) defs f e in
+    let k = is_fun x f a.item a.gives in
+    record {
+      place = a.place;
+      body = k.0;
+      there = a.there ∙ ap Some k.1;
+      is = same_item (fun_here x) (function_here x) (no_function x) defs f a _ (ap (function_here x) k.1 ∙ here_is x _);
+    }
 
 -- ---- constructors
 
--- a constructor in its list, counted from j
-pub record Placed (cons : List Con) (j : ℕ) (x : List ℕ) (args : List Ty) : Type 0 where
+-- a constructor in its list
+pub record Placed (cons : List Con) (x : List ℕ) (args : List Ty) : Type 0 where
   pub k : ℕ
   pub con : Con
   pub there : slice_get cons k ≡ Some con
   pub args_are : con.args ≡ args
-  pub place : place_in cons j x ≡ Some (j + k, args)
+  pub place : place_in cons x ≡ Some (k, args)
 
-placed : (cons : List Con) (j : ℕ) (x : List ℕ) (args : List Ty) → con_in cons x ≡ Some args → Placed cons j x args
-placed [] j x args e = absurd (no_some args e)
-placed (c ∷ cons) j x args e = go (bytes_eq c.name x) refl e (placed cons (suc j) x args)
-  where
-    go : (b : Bool) → bytes_eq c.name x ≡ b → (if b then Some c.args else con_in cons x) ≡ Some args → (con_in cons x ≡ Some args → Placed cons (suc j) x args)
-        → Placed (c ∷ cons) j x args
-    go true q e' later =
-        let same : c.args ≡ args = same_some c.args args e' in
-        let z : j ≡ j + 0 = omega arith in
-        record { k = 0; con = c; there = refl; args_are = same; place = rw q (ap (λ w. Some (j, w)) same ∙ ap (λ n. Some (n, args)) z) }
-    go false q e' later =
-        let p = later e' in
-        let z : suc j + p.k ≡ j + suc p.k = omega arith in
-        record { k = suc p.k; con = p.con; there = p.there; args_are = p.args_are; place = rw q (p.place ∙ ap (λ n. Some (n, args)) z) }
+-- where a constructor has not the name, it has no place either
+no_place : (x : List ℕ) (p : ℕ × Con) → args_here x p.1 ≡ None → place_here x p ≡ None
+no_place x p e = not_if (bytes_eq p.1.name x) p.1.args _ e
 
-unplaced : (cons : List Con) (j : ℕ) (x : List ℕ) → con_in cons x ≡ None → place_in cons j x ≡ None
-unplaced [] j x e = refl
-unplaced (c ∷ cons) j x e = go (bytes_eq c.name x) e (unplaced cons (suc j) x)
-  where
-    go : (b : Bool) → (if b then Some c.args else con_in cons x) ≡ None → (con_in cons x ≡ None → place_in cons (suc j) x ≡ None)
-        → (if b then Some (j, c.args) else place_in cons (suc j) x) ≡ None
-    go true e' later = absurd (cc)
-    go false e' later = later e'
+placed : (cons : List Con) (x : List ℕ) (args : List Ty) → con_in cons x ≡ Some args → Placed cons x args
+placed cons x args e =
+    let a = answers (λ p. args_here x p.1) (numbered 0 cons) args (first_numbered (args_here x) 0 cons ∙ e) in
+    let s = get_numbered 0 cons a.place a.item a.there in
+    let k = answer_of a.item.1.name x a.item.1.args args a.gives in
+    let is : place_here x a.item ≡ Some (a.item.0, args) = ap (λ (b : Bool). if b then Some (a.item.0, a.item.1.args) else None) (ap (λ z. bytes_eq z x) k.0 ∙ name_same x) ∙ ap (λ w. Some (a.item.0, w)) k.1 in
+    let q : a.item.0 ≡ a.place = let l = s.0 in omega (arith, l) in
+    record {
+      k = a.item.0;
+      con = a.item.1;
+      there = ap (slice_get cons) q ∙ s.1;
+      args_are = k.1;
+      place = same_item (λ p. args_here x p.1) (place_here x) (no_place x) (numbered 0 cons) args a (a.item.0, args) is;
+    }
 
--- a constructor is one of earlier definitions, or of the last one
-con_last : (before : List Def) (def : Def) (x : List ℕ) (c : Constructor) → con_named (before ++ def ∷ []) x ≡ Some c
-    → (con_named before x ≡ Some c) ⊎ ((con_named before x ≡ None) × (con_named (def ∷ []) x ≡ Some c))
-con_last [] def x c e = inr (refl, e)
-con_last (d.Sum name vars cons ∷ before) def x c e = go (con_in cons x) e (con_last before def x c)
-  where
-    go : (o : Option (List Ty)) → con_or name vars o (con_named (before ++ def ∷ []) x) ≡ Some c
-        → (con_named (before ++ def ∷ []) x ≡ Some c → (con_named before x ≡ Some c) ⊎ ((con_named before x ≡ None) × (con_named (def ∷ []) x ≡ Some c)))
-        → (con_or name vars o (con_named before x) ≡ Some c) ⊎ ((con_or name vars o (con_named before x) ≡ None) × (con_named (def ∷ []) x ≡ Some c))
-    go (Some args) q later = inl q
-    go None q later = later q
-con_last (d.Struct name vars fields ∷ before) def x c e = con_last before def x c e
-con_last (d.Table name ty nums ∷ before) def x c e = con_last before def x c e
-con_last (d.Fun name vars params result body ∷ before) def x c e = con_last before def x c e
-con_last (d.Entry name ∷ before) def x c e = con_last before def x c e
-
-place_more : (before after : List Def) (x : List ℕ) (p : ℕ × List Ty) → con_place before x ≡ Some p → con_place (before ++ after) x ≡ Some p
-place_more [] after x p e = absurd (no_some p e)
-place_more (d.Sum name vars cons ∷ before) after x p e = go (place_in cons 0 x) e (place_more before after x p)
-  where
-    go : (o : Option (ℕ × List Ty)) → place_or o (con_place before x) ≡ Some p → (con_place before x ≡ Some p → con_place (before ++ after) x ≡ Some p)
-        → place_or o (con_place (before ++ after) x) ≡ Some p
-    go (Some q) e' later = e'
-    go None e' later = later e'
-place_more (d.Struct name vars fields ∷ before) after x p e = place_more before after x p e
-place_more (d.Table name ty nums ∷ before) after x p e = place_more before after x p e
-place_more (d.Fun name vars params result body ∷ before) after x p e = place_more before after x p e
-place_more (d.Entry name ∷ before) after x p e = place_more before after x p e
-
-place_last : (before after : List Def) (x : List ℕ) → con_named before x ≡ None → con_place (before ++ after) x ≡ con_place after x
-place_last [] after x e = refl
-place_last (d.Sum name vars cons ∷ before) after x e = go (con_in cons x) refl e (place_last before after x)
-  where
-    go : (o : Option (List Ty)) → con_in cons x ≡ o → con_or name vars o (con_named before x) ≡ None
-        → (con_named before x ≡ None → con_place (before ++ after) x ≡ con_place after x) → place_or (place_in cons 0 x) (con_place (before ++ after) x) ≡ con_place after x
-    go (Some args) q e' later = absurd (cc)
-    go None q e' later = ap (λ o. place_or o (con_place (before ++ after) x)) (unplaced cons 0 x q) ∙ later e'
-place_last (d.Struct name vars fields ∷ before) after x e = place_last before after x e
-place_last (d.Table name ty nums ∷ before) after x e = place_last before after x e
-place_last (d.Fun name vars params result body ∷ before) after x e = place_last before after x e
-place_last (d.Entry name ∷ before) after x e = place_last before after x e
+unplaced : (x : List ℕ) (def : Def) → con_here x def ≡ None → con_place_here x def ≡ None
+unplaced x (d.Sum name vars cons) e =
+    silent_too (λ p. args_here x p.1) (place_here x) (no_place x) (numbered 0 cons) (first_numbered (args_here x) 0 cons ∙ not_map (con_from name vars) (con_in cons x) e)
+unplaced x (d.Struct name vars fields) e = refl
+unplaced x (d.Table name ty nums) e = refl
+unplaced x (d.Fun name vars params result body) e = refl
+unplaced x (d.Entry name) e = refl
 
 -- a name that no definition gives means nothing
+unnamed_here : (x : List ℕ) (def : Def) → (Contains (type_name def) x → ⊥) → type_here x def ≡ None
+unnamed_here x (d.Struct name vars fields) absent = other name x (Struct vars fields) absent
+unnamed_here x (d.Sum name vars cons) absent = other name x (Sum vars cons) absent
+unnamed_here x (d.Table name ty nums) absent = refl
+unnamed_here x (d.Fun name vars params result body) absent = refl
+unnamed_here x (d.Entry name) absent = refl
+
 unnamed : (before : List Def) (x : List ℕ) → (Contains (flat_map type_name before) x → ⊥) → type_named before x ≡ None
 unnamed [] x absent = refl
-unnamed (d.Struct name vars fields ∷ before) x absent = go (bytes_eq name x) refl (unnamed before x (λ k. absent (contains_later name x (flat_map type_name before) k)))
-  where
-    go : (b : Bool) → bytes_eq name x ≡ b → type_named before x ≡ None → (if b then Some (Struct vars fields) else type_named before x) ≡ None
-    go true q later = absurd (absent (subst (λ z. Contains (name ∷ flat_map type_name before) z) ((bytes_eq-Decides name x).0 q) (contains_first name (flat_map type_name before))))
-    go false q later = later
-unnamed (d.Sum name vars cons ∷ before) x absent = go (bytes_eq name x) refl (unnamed before x (λ k. absent (contains_later name x (flat_map type_name before) k)))
-  where
-    go : (b : Bool) → bytes_eq name x ≡ b → type_named before x ≡ None → (if b then Some (Sum vars cons) else type_named before x) ≡ None
-    go true q later = absurd (absent (subst (λ z. Contains (name ∷ flat_map type_name before) z) ((bytes_eq-Decides name x).0 q) (contains_first name (flat_map type_name before))))
-    go false q later = later
-unnamed (d.Table name ty nums ∷ before) x absent = unnamed before x absent
-unnamed (d.Fun name vars params result body ∷ before) x absent = unnamed before x absent
-unnamed (d.Entry name ∷ before) x absent = unnamed before x absent
-
-unnamed_last : (before after : List Def) (x : List ℕ) → type_named before x ≡ None → type_named (before ++ after) x ≡ type_named after x
-unnamed_last [] after x e = refl
-unnamed_last (d.Struct name vars fields ∷ before) after x e = go (bytes_eq name x) e (unnamed_last before after x)
-  where
-    go : (b : Bool) → (if b then Some (Struct vars fields) else type_named before x) ≡ None → (type_named before x ≡ None → type_named (before ++ after) x ≡ type_named after x)
-        → (if b then Some (Struct vars fields) else type_named (before ++ after) x) ≡ type_named after x
-    go true e' later = absurd (cc)
-    go false e' later = later e'
-unnamed_last (d.Sum name vars cons ∷ before) after x e = go (bytes_eq name x) e (unnamed_last before after x)
-  where
-    go : (b : Bool) → (if b then Some (Sum vars cons) else type_named before x) ≡ None → (type_named before x ≡ None → type_named (before ++ after) x ≡ type_named after x)
-        → (if b then Some (Sum vars cons) else type_named (before ++ after) x) ≡ type_named after x
-    go true e' later = absurd (cc)
-    go false e' later = later e'
-unnamed_last (d.Table name ty nums ∷ before) after x e = unnamed_last before after x e
-unnamed_last (d.Fun name vars params result body ∷ before) after x e = unnamed_last before after x e
-unnamed_last (d.Entry name ∷ before) after x e = unnamed_last before after x e
+unnamed (def ∷ before) x absent =
+    ap (λ o. option_or o (type_named before x)) (unnamed_here x def (λ k. absent (Contains-append_left (type_name def) (flat_map type_name before) x k)))
+    ∙ unnamed before x (λ k. absent (Contains-append_right (type_name def) (flat_map type_name before) x k))
 
 -- each constructor of these stands in its sum
 abbrev InSums : List Def → Type 0
@@ -305,24 +207,22 @@ in_sum_more before after x c i = record {
   is = named_more before after c.sum (Sum c.vars i.cons) i.is;
   there = i.there;
   args = i.args;
-  place = place_more before after x (i.k, c.args) i.place;
+  place = first_kept (con_place_here x) before after (i.k, c.args) i.place;
 }
 
-new_con : (defs before : List Def) (def : Def) (x : List ℕ) (c : Constructor) → WellTyped defs before def → con_named before x ≡ None → con_named (def ∷ []) x ≡ Some c
+new_con : (defs before : List Def) (def : Def) (x : List ℕ) (c : Constructor) → WellTyped defs before def → con_named before x ≡ None → con_here x def ≡ Some c
     → InSum (before ++ def ∷ []) x c
 new_con defs before def x c (WellTyped.sum {x = name} {vars = vars} {cons = cons} new cs vs ok) none is = go (con_in cons x) refl is
   where
-    go : (o : Option (List Ty)) → con_in cons x ≡ o → con_or name vars o None ≡ Some c → InSum (before ++ d.Sum name vars cons ∷ []) x c
+    go : (o : Option (List Ty)) → con_in cons x ≡ o → option_map (con_from name vars) o ≡ Some c → InSum (before ++ d.Sum name vars cons ∷ []) x c
     go None q e = absurd (no_some c e)
     go (Some args) q e =
-        let same : record { sum = name; vars = vars; args = args } ≡ c = same_some (record { sum = name; vars = vars; args = args }) c e in
-        let p = placed cons 0 x args q in
-        let z : 0 + p.k ≡ p.k = omega arith in
+        let p = placed cons x args q in
         let named : type_named (before ++ d.Sum name vars cons ∷ []) name ≡ Some (Sum vars cons) =
-        unnamed_last before (d.Sum name vars cons ∷ []) name (unnamed before name new.1.0) ∙ ap (λ (b : Bool). if b then Some (Sum vars cons) else None) (name_same name) in
+        first_later (type_here name) before (d.Sum name vars cons ∷ []) (unnamed before name new.1.0) ∙ or_none _ ∙ here_is name _ in
         let place : con_place (before ++ d.Sum name vars cons ∷ []) x ≡ Some (p.k, args) =
-        place_last before (d.Sum name vars cons ∷ []) x none ∙ ap (λ o. place_or o None) (p.place ∙ ap (λ n. Some (n, args)) z) in
-        subst (InSum (before ++ d.Sum name vars cons ∷ []) x) same
+        first_later (con_place_here x) before (d.Sum name vars cons ∷ []) (silent_too (con_here x) (con_place_here x) (unplaced x) before none) ∙ or_none _ ∙ p.place in
+        subst (InSum (before ++ d.Sum name vars cons ∷ []) x) (same_some (con_from name vars args) c e)
         (record { cons = cons; k = p.k; con = p.con; is = named; there = p.there; args = p.args_are; place = place })
 new_con defs before def x c (WellTyped.struct new vs fs ok) none is = absurd (cc)
 new_con defs before def x c (WellTyped.table new ok) none is = absurd (cc)
@@ -330,9 +230,9 @@ new_con defs before def x c (WellTyped.fun new vs ps ok r res b) none is = absur
 new_con defs before def x c (WellTyped.entry new is' nv ps ans) none is = absurd (cc)
 
 in_sums_more : (defs before : List Def) (def : Def) → InSums before → WellTyped defs before def → InSums (before ++ def ∷ [])
-in_sums_more defs before def s w x c e = go (con_last before def x c e)
+in_sums_more defs before def s w x c e = go (first_last (con_here x) before def c e)
   where
-    go : (con_named before x ≡ Some c) ⊎ ((con_named before x ≡ None) × (con_named (def ∷ []) x ≡ Some c)) → InSum (before ++ def ∷ []) x c
+    go : (con_named before x ≡ Some c) ⊎ ((con_named before x ≡ None) × (con_here x def ≡ Some c)) → InSum (before ++ def ∷ []) x c
     go (inl q) = in_sum_more before (def ∷ []) x c (s x c q)
     go (inr q) = new_con defs before def x c w q.0 q.1
 
@@ -361,17 +261,18 @@ module _ (defs : List Def) (typed : AreWellTyped defs) where
 
   function_there : (x : List ℕ) (f : Signature) → fun_named defs x ≡ Some f → IsFunction defs x f
   function_there x f e =
-      let g = fun_there defs defs x f (each_def (FunFits defs) (fun_fits defs)) e in
+      let g = fun_found defs x f e in
+      let t = fun_fits defs (take g.place defs) x f.vars f.params f.result g.body (typed g.place (d.Fun x f.vars f.params f.result g.body) g.there) in
       record {
-        body = g.body;
+        body = record { tvars = f.vars; params = f.params; body = g.body };
         is = g.is;
-        vars = g.vars;
-        params = g.params;
-        distinct = g.fits.distinct;
-        each = g.fits.each;
-        result = g.fits.gives;
-        gives = g.fits.answers;
-        typed = g.fits.typed;
+        vars = refl;
+        params = refl;
+        distinct = t.distinct;
+        each = t.each;
+        result = t.gives;
+        gives = t.answers;
+        typed = t.typed;
       }
 
   pub facts : Facts defs
@@ -379,8 +280,6 @@ module _ (defs : List Def) (typed : AreWellTyped defs) where
     fields = settled.fields;
     cons = λ x vars cons k c is there. each_get (λ (z : Con). AllByRecursion (λ a. IsType defs vars a × IsFlat defs a) z.args) cons k c (settled.cons x vars cons is) there;
     con = in_sums;
-    table = λ x i e.
-        let t = table_there 0 defs x i (each_def TableFits (table_fits defs)) e in
-        record { table = t.table; is = t.is; ty = t.ty; fit = t.fit };
+    table = table_there defs typed;
     function = function_there;
   }

@@ -1,6 +1,7 @@
 -- Values of a type, and what keeps them so.
-use Rattle.std.proofs.Common.{◌≡◌, ℕ, zero, suc, ◌+◌, ◌^◌, ◌<◌, ◌≤◌, Bool, true, false, if◌then◌else◌, List, [], ◌∷◌, Some, slice_get, map, length, refl, sym, ap, ◌∙◌, subst}
+use Rattle.std.proofs.Common.{◌≡◌, ℕ, zero, suc, ◌+◌, ◌^◌, ◌<◌, ◌≤◌, Bool, true, false, if◌then◌else◌, List, [], ◌∷◌, Some, None, slice_get, map, length, refl, sym, ap, ◌∙◌, subst}
 use Rattle.std.specs.List.{AllByRecursion}
+use Rattle.std.specs.Option.{option_or}
 use Rattle.std.specs.Str.{bytes_eq}
 use Rattle.krml_trace.specs.declared.width.Width.{Width}
 use Rattle.krml_trace.specs.declared.width.Width.TheVariants.{W8, W32, W64}
@@ -240,7 +241,7 @@ module _ (defs : List Def) where
         let both = shapes_in m (x ∷ xs) (fields_at vars args (f ∷ fields)) all in
         go (bytes_eq f.name y) q both.0 (λ e. field_value fields xs both.1 e)
       where
-        go : (c : Bool) → (if c then Some f.ty else field_named fields y) ≡ Some b → HasShape defs m x (at vars args f.ty)
+        go : (c : Bool) → option_or (if c then Some f.ty else None) (field_named fields y) ≡ Some b → HasShape defs m x (at vars args f.ty)
             → (field_named fields y ≡ Some b → (z : Value) × (field_of (names_of fields) xs y ≡ Some z) × HasShape defs m z (at vars args b))
             → (z : Value) × ((if c then Some x else field_of (names_of fields) xs y) ≡ Some z) × HasShape defs m z (at vars args b)
         go true e h later = (x, refl, subst (λ w. HasShape defs m x (at vars args w)) (same_some f.ty b e) h)

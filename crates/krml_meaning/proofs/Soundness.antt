@@ -13,7 +13,9 @@ use Rattle.krml_syntax.specs.declared.tree.Case.{Case}
 use Rattle.krml_syntax.specs.declared.tree.Item.{Item}
 use Rattle.krml_syntax.specs.declared.tree.Expr.{Expr}
 use Rattle.krml_syntax.specs.declared.tree.Def.{Def}
-use Rattle.krml_ast.specs.Names.{Constructor, field_named}
+use Rattle.krml_ast.specs.Names.{Constructor, field_here, field_named}
+use Rattle.krml_ast.proofs.Named.{answer_of}
+use Rattle.krml_trace.proofs.First.{answers}
 use Rattle.krml_syntax.specs.Types.{erased, int_ty, u32, type_at}
 use Rattle.krml_ast.specs.IsType.{IsFlat, IsType, AreArguments}
 use Rattle.krml_ast.specs.Typing.{Scope, with_vars, in_loop, in_frame, fields_at, at, HasType, AllHaveType, ArmsHaveType, ItemsLead, CasesHaveType}
@@ -98,12 +100,10 @@ module _ (defs : List Def) (facts : Facts defs) (at_args : Instance defs) (calls
   part_type vars types j b h e = each_get (IsType defs vars) types j b h e
 
   field_type : (vars : List (List ℕ)) (fields : List Field) (y : List ℕ) (b : Ty) → AllByRecursion (λ f. IsType defs vars f.ty) fields → field_named fields y ≡ Some b → IsType defs vars b
-  field_type vars [] y b h e = absurd (no_some b e)
-  field_type vars (f ∷ fields) y b h e = go (bytes_eq f.name y) e (field_type vars fields y b h.1)
-    where
-      go : (c : Bool) → (if c then Some f.ty else field_named fields y) ≡ Some b → (field_named fields y ≡ Some b → IsType defs vars b) → IsType defs vars b
-      go true q later = subst (IsType defs vars) (same_some f.ty b q) h.0
-      go false q later = later q
+  field_type vars fields y b h e =
+      let a = answers (field_here y) fields b e in
+      let k = answer_of a.item.name y a.item.ty b a.gives in
+      subst (IsType defs vars) k.1 (each_get (λ f. IsType defs vars f.ty) fields a.place a.item h a.there)
 
   count_back : (args : List Ty) (vars : List (List ℕ)) → length (map here args) ≡ length vars → length args ≡ length vars
   count_back args vars n = sym (map_length here args) ∙ n

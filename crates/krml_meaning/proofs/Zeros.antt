@@ -10,18 +10,19 @@ use Rattle.krml_syntax.specs.declared.tree.Field.{Field}
 use Rattle.krml_syntax.specs.declared.tree.Con.{Con}
 use Rattle.krml_syntax.specs.declared.tree.Def.{Def}
 use Rattle.krml_syntax.specs.declared.tree.Def.TheVariants as d
-use Rattle.krml_ast.specs.Names.{Composite, Struct, Sum, vars_of, type_named}
+use Rattle.krml_ast.specs.Names.{Composite, Struct, Sum, vars_of, type_here, type_named}
 use Rattle.krml_syntax.specs.Types.{erased, type_at}
 use Rattle.krml_ast.specs.IsType.{HoldsBuffer, IsFlat, IsType, AreArguments}
 use Rattle.krml_ast.specs.Typing.{at, fields_at}
 use Rattle.krml_ast.specs.WellTyped.{names_of, WellTyped, AreWellTyped}
 use Rattle.krml_ast.specs.FileTypes.{HasSize, listed_vars}
 use Rattle.krml_ast.proofs.Earlier.{named_more, named_last}
+use Rattle.krml_ast.proofs.Named.{is_struct, is_sum, struct_stands, sum_stands}
 use Rattle.krml_meaning.specs.declared.value.Value.{Value}
 use Rattle.krml_meaning.specs.declared.value.Value.TheVariants as v
 use Rattle.krml_meaning.specs.Meaning.{all_some, zero_of, zero_in, zero_within}
 use Rattle.krml_meaning.specs.Shape.{HasShape, AllHaveShape}
-use Rattle.krml_meaning.proofs.Lists.{same_some, no_some, each_so, each_among, each_contains}
+use Rattle.krml_meaning.proofs.Lists.{each_get, same_some, no_some, each_so, each_among, each_contains}
 use Rattle.krml_syntax.proofs.Types.{erased_bool, erased_unit, erased_int, erased_named, at_none}
 use Rattle.krml_meaning.proofs.Earlier.{Settled, none_settled, flat_more}
 use Rattle.krml_meaning.proofs.Files.{through, new_fields, new_cons, settled_more}
@@ -137,38 +138,8 @@ module _ (defs : List Def) where
           }
 
 pub vars_gone : (defs : List Def) (x : List ℕ) (c : Composite) → AllByRecursion NoVars defs → type_named defs x ≡ Some c → vars_of c ≡ []
-vars_gone [] x c h e = absurd (no_some c e)
-vars_gone (d.Struct name vars fields ∷ defs) x c h e = go (bytes_eq name x) e (vars_gone defs x c h.1)
-  where
-    go : (b : Bool) → (if b then Some (Struct vars fields) else type_named defs x) ≡ Some c → (type_named defs x ≡ Some c → vars_of c ≡ []) → vars_of c ≡ []
-    go true q later = ap vars_of (sym (same_some (Struct vars fields) c q)) ∙ h.0
-    go false q later = later q
-vars_gone (d.Sum name vars cons ∷ defs) x c h e = go (bytes_eq name x) e (vars_gone defs x c h.1)
-  where
-    go : (b : Bool) → (if b then Some (Sum vars cons) else type_named defs x) ≡ Some c → (type_named defs x ≡ Some c → vars_of c ≡ []) → vars_of c ≡ []
-    go true q later = ap vars_of (sym (same_some (Sum vars cons) c q)) ∙ h.0
-    go false q later = later q
-vars_gone (d.Table name ty nums ∷ defs) x c h e = vars_gone defs x c h.1 e
-vars_gone (d.Fun name vars params result body ∷ defs) x c h e = vars_gone defs x c h.1 e
-vars_gone (d.Entry name ∷ defs) x c h e = vars_gone defs x c h.1 e
-
-has_con : (def : Def) (x : List ℕ) (vars : List (List ℕ)) (cons : List Con) → HasSize def → type_named (def ∷ []) x ≡ Some (Sum vars cons) → 1 ≤ length cons
-has_con (d.Sum name vars' cons') x vars cons h e = go (bytes_eq name x) e
-  where
-    same : Sum vars' cons' ≡ Sum vars cons → cons' ≡ cons
-    same q = cc
-
-    go : (b : Bool) → (if b then Some (Sum vars' cons') else None) ≡ Some (Sum vars cons) → 1 ≤ length cons
-    go true q = subst (λ z. 1 ≤ length z) (same (same_some (Sum vars' cons') (Sum vars cons) q)) h.0
-    go false q = absurd (cc)
-has_con (d.Struct name vars' fields) x vars cons h e = go (bytes_eq name x) e
-  where
-    go : (b : Bool) → (if b then Some (Struct vars' fields) else None) ≡ Some (Sum vars cons) → 1 ≤ length cons
-    go true q = absurd (cc)
-    go false q = absurd (cc)
-has_con (d.Table name ty nums) x vars cons h e = absurd (cc)
-has_con (d.Fun name vars' params result body) x vars cons h e = absurd (cc)
-has_con (d.Entry name) x vars cons h e = absurd (cc)
+vars_gone defs x (Struct vars fields) h e = let s = struct_stands defs x vars fields e in each_get NoVars defs s.0 (d.Struct x vars fields) h s.1
+vars_gone defs x (Sum vars cons) h e = let s = sum_stands defs x vars cons e in each_get NoVars defs s.0 (d.Sum x vars cons) h s.1
 
 empty : {A : Type 0} (xs : List A) → length xs ≡ 0 → xs ≡ []
 empty [] e = refl
@@ -192,14 +163,14 @@ module _ (defs : List Def) (typed : AreWellTyped defs) (gone : AllByRecursion No
     flat_whole : (a : Ty) → IsType before [] a → IsFlat before a → HoldsBuffer defs a → ⊥
     flat_whole a ok f h = (flat_more before (def ∷ rest) s a [] ok f).flat (subst (λ z. HoldsBuffer z a) (sym place) h)
 
-    last_zero : (x : List ℕ) (c : Composite) → type_named (def ∷ []) x ≡ Some c → type_named defs x ≡ Some c → vars_of c ≡ [] → (HoldsBuffer defs (t.Named x []) → ⊥) → (n : ℕ)
+    last_zero : (x : List ℕ) (c : Composite) → type_here x def ≡ Some c → type_named defs x ≡ Some c → vars_of c ≡ [] → (HoldsBuffer defs (t.Named x []) → ⊥) → (n : ℕ)
         → length before ≤ n → ZeroWithin defs (suc (suc n)) (t.Named x [])
     last_zero x (Struct vars fields) q is none_vars none n le =
         struct_zero defs before zeros n le x fields (is ∙ ap (λ z. Some (Struct z fields)) none_vars)
-        (subst (λ z. AllByRecursion (λ f. IsType before z f.ty) fields) none_vars (new_fields defs before def x vars fields w q)) none
-    last_zero x (Sum vars []) q is none_vars none n le = absurd (let l = has_con def x vars [] size q in omega (arith, l))
+        (subst (λ z. AllByRecursion (λ f. IsType before z f.ty) fields) none_vars (new_fields defs before x vars fields (subst (WellTyped defs before) (is_struct x vars fields def q) w))) none
+    last_zero x (Sum vars []) q is none_vars none n le = absurd (let l = (subst HasSize (is_sum x vars [] def q) size).0 in omega (arith, l))
     last_zero x (Sum vars (c ∷ cons)) q is none_vars none n le =
-        let oks = (new_cons defs before def x vars (c ∷ cons) w q).0 in
+        let oks = (new_cons defs before x vars (c ∷ cons) (subst (WellTyped defs before) (is_sum x vars (c ∷ cons) def q) w)).0 in
         let mine : AllByRecursion (λ a. IsType before [] a × IsFlat before a) c.args = subst (λ z. AllByRecursion (λ a. IsType before z a × IsFlat before a) c.args) none_vars oks in
         sum_zero defs before zeros n le x c cons (is ∙ ap (λ z. Some (Sum z (c ∷ cons))) none_vars)
         (each_so (λ a. IsType before [] a × IsFlat before a) (λ a. IsType before [] a × (HoldsBuffer defs a → ⊥)) c.args (λ a k. (k.0, flat_whole a k.0 k.1)) mine)
@@ -221,7 +192,7 @@ module _ (defs : List Def) (typed : AreWellTyped defs) (gone : AllByRecursion No
         more [] = refl
         more (other ∷ before) = ap suc (more before)
 
-        go : (type_named before x ≡ Some c) ⊎ (type_named (def ∷ []) x ≡ Some c) → type_named defs x ≡ Some c → vars_of c ≡ [] → (HoldsBuffer defs (t.Named x []) → ⊥) → (n : ℕ)
+        go : (type_named before x ≡ Some c) ⊎ (type_here x def ≡ Some c) → type_named defs x ≡ Some c → vars_of c ≡ [] → (HoldsBuffer defs (t.Named x []) → ⊥) → (n : ℕ)
             → length (before ++ def ∷ []) ≤ n → ZeroWithin defs (suc n) (t.Named x [])
         go (inl q) whole none_vars none n le =
             let longer = more before in

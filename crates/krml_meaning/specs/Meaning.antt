@@ -4,6 +4,7 @@
 -- Undefined: that comes in no file that is well typed.
 use Rattle.std.specs.Prelude.{ℕ, zero, suc, ◌+◌, ◌-◌, ◌*◌, ◌/◌, ◌%◌, ◌^◌, ◌==◌, Bool, true, false, not, ◌&&◌, if◌then◌else◌, nat_lt, nat_le, bit_and, bit_or, bit_xor, List, [], ◌∷◌, ◌++◌, map, length, Option, Some, None, option_map, option_and_then, slice_get}
 use Rattle.std.specs.Str.{bytes_eq}
+use Rattle.krml_trace.specs.First.{first, numbered}
 use Rattle.krml_trace.specs.declared.width.Width.{Width}
 use Rattle.krml_trace.specs.declared.width.Width.TheVariants.{W32}
 use Rattle.krml_trace.specs.declared.argument.Arg.{Arg}
@@ -159,18 +160,21 @@ abbrev pub get : List ℕ → Sem → Sem
 get y a env s = bind (a env s) (λ x s. as_struct x s (λ names xs. with_some Undefined (field_of names xs y) s (λ v. Goes v s)))
 
 -- the place of a constructor in its sum, and the types of its arguments
-abbrev pub place_in : List Con → ℕ → List ℕ → Option (ℕ × List Ty)
-place_in [] k x = None
-place_in (c ∷ cons) k x = if bytes_eq c.name x then Some (k, c.args) else place_in cons (suc k) x
+abbrev pub place_here : List ℕ → ℕ × Con → Option (ℕ × List Ty)
+place_here x p = if bytes_eq p.1.name x then Some (p.0, p.1.args) else None
 
-abbrev pub place_or : Option (ℕ × List Ty) → Option (ℕ × List Ty) → Option (ℕ × List Ty)
-place_or (Some p) later = Some p
-place_or None later = later
+abbrev pub place_in : List Con → List ℕ → Option (ℕ × List Ty)
+place_in cons x = first (place_here x) (numbered 0 cons)
+
+abbrev pub con_place_here : List ℕ → Def → Option (ℕ × List Ty)
+con_place_here x (d.Sum name vars cons) = place_in cons x
+con_place_here x (d.Struct name vars fields) = None
+con_place_here x (d.Table name ty nums) = None
+con_place_here x (d.Fun name vars params result body) = None
+con_place_here x (d.Entry name) = None
 
 abbrev pub con_place : List Def → List ℕ → Option (ℕ × List Ty)
-con_place [] x = None
-con_place (d.Sum name vars cons ∷ defs) x = place_or (place_in cons 0 x) (con_place defs x)
-con_place (def ∷ defs) x = con_place defs x
+con_place defs x = first (con_place_here x) defs
 
 -- (con C (T..) a..)
 abbrev pub con : List Def → List ℕ → List Sem → Sem
@@ -206,10 +210,15 @@ pub record Table : Type 0 where
   pub ty : IntTy
   pub nums : List ℕ
 
+abbrev pub table_at : ℕ → List ℕ → Def → Option Table
+table_at k x (d.Table name i nums) = if bytes_eq name x then Some (record { place = k; ty = i; nums = nums }) else None
+table_at k x (d.Struct name vars fields) = None
+table_at k x (d.Sum name vars cons) = None
+table_at k x (d.Fun name vars params result body) = None
+table_at k x (d.Entry name) = None
+
 abbrev pub table_from : ℕ → List Def → List ℕ → Option Table
-table_from k [] x = None
-table_from k (d.Table name i nums ∷ defs) x = if bytes_eq name x then Some (record { place = k; ty = i; nums = nums }) else table_from (suc k) defs x
-table_from k (def ∷ defs) x = table_from (suc k) defs x
+table_from k defs x = first (λ p. table_at p.0 x p.1) (numbered k defs)
 
 -- element i of a table
 abbrev pub look_up : Table → ℕ → SourceState → SourceRan Value
@@ -465,11 +474,15 @@ pub record Function : Type 0 where
   pub body : Expr
 
 -- The function of a name: the first of the file that has it.
+abbrev pub function_here : List ℕ → Def → Option Function
+function_here x (d.Fun name vars params result body) = if bytes_eq name x then Some (record { tvars = vars; params = params; body = body }) else None
+function_here x (d.Struct name vars fields) = None
+function_here x (d.Sum name vars cons) = None
+function_here x (d.Table name ty nums) = None
+function_here x (d.Entry name) = None
+
 abbrev pub function_named : List Def → List ℕ → Option Function
-function_named [] x = None
-function_named (d.Fun name vars params result body ∷ defs) x =
-    if bytes_eq name x then Some (record { tvars = vars; params = params; body = body }) else function_named defs x
-function_named (def ∷ defs) x = function_named defs x
+function_named defs x = first (function_here x) defs
 
 -- the parameters with these values, the last one the newest
 abbrev pub params_over : List Field → List Value → Variables → Option Variables

@@ -1,6 +1,7 @@
 -- The first item of a list that has an answer: where it stands, and the same look-up in other lists and by other answers.
 use Rattle.std.proofs.Common.{◌≡◌, ℕ, zero, suc, ◌+◌, Bool, true, false, if◌then◌else◌, List, [], ◌∷◌, ◌++◌, map, length, take, slice_get, flat_map, Option, Some, None, ◌⊎◌, inl, inr, option_map, option_and_then, refl, sym, ap, ◌∙◌, arith}
 use Rattle.std.specs.Option.{option_or}
+use Rattle.std.proofs.lemmas.Option.{same_Some}
 use Rattle.krml_trace.specs.First.{first, numbered, place_if, first_place}
 
 -- ---- answers
@@ -23,6 +24,15 @@ or_or None p q = refl
 pub or_map : {X Y : Type 0} (f : X → Y) (o p : Option X) → option_map f (option_or o p) ≡ option_or (option_map f o) (option_map f p)
 or_map f (Some v) p = refl
 or_map f None p = refl
+
+-- a test that gives no answer gives none of another kind
+pub not_if : {X Y : Type 0} (b : Bool) (v : X) (w : Y) → (if b then Some v else None) ≡ None → (if b then Some w else None) ≡ None
+not_if true v w e = absurd (cc)
+not_if false v w e = refl
+
+pub not_map : {X Y : Type 0} (f : X → Y) (o : Option X) → option_map f o ≡ None → o ≡ None
+not_map f (Some v) e = absurd (cc)
+not_map f None e = refl
 
 -- ---- the item that answers
 
@@ -61,14 +71,36 @@ module _ {A X : Type 0} (give : A → Option X) where
   pub first_later : (before after : List A) → first give before ≡ None → first give (before ++ after) ≡ first give after
   first_later before after e = first_more before after ∙ ap (λ o. option_or o (first give after)) e
 
-  -- an answer is the first list's, or the second's where the first has none
-  pub first_either : (before after : List A) (v : X) → first give (before ++ after) ≡ Some v
-      → (first give before ≡ Some v) ⊎ ((first give before ≡ None) × (first give after ≡ Some v))
-  first_either before after v e = go (first give before) refl (sym (first_more before after) ∙ e)
+  -- an answer is one of earlier items, or of the last one where they have none
+  pub first_last : (before : List A) (a : A) (v : X) → first give (before ++ a ∷ []) ≡ Some v → (first give before ≡ Some v) ⊎ ((first give before ≡ None) × (give a ≡ Some v))
+  first_last before a v e = go (first give before) (sym (first_more before (a ∷ [])) ∙ e)
     where
-      go : (o : Option X) → first give before ≡ o → option_or o (first give after) ≡ Some v → (o ≡ Some v) ⊎ ((o ≡ None) × (first give after ≡ Some v))
-      go (Some w) q e' = inl e'
-      go None q e' = inr (refl, e')
+      go : (o : Option X) → option_or o (option_or (give a) None) ≡ Some v → (o ≡ Some v) ⊎ ((o ≡ None) × (give a ≡ Some v))
+      go (Some w) e' = inl e'
+      go None e' = inr (refl, sym (or_none (give a)) ∙ e')
+
+-- where another function answers at no earlier item, its answer at that item is its first
+module _ {A X Y : Type 0} (give : A → Option X) (other : A → Option Y) (silent : (a : A) → give a ≡ None → other a ≡ None) where
+  pub silent_too : (xs : List A) → first give xs ≡ None → first other xs ≡ None
+  silent_too [] e = refl
+  silent_too (a ∷ xs) e = go (give a) refl e (silent_too xs)
+    where
+      go : (o : Option X) → give a ≡ o → option_or o (first give xs) ≡ None → (first give xs ≡ None → first other xs ≡ None) → option_or (other a) (first other xs) ≡ None
+      go (Some v) q e' later = absurd (cc)
+      go None q e' later = ap (λ o. option_or o (first other xs)) (silent a q) ∙ later e'
+
+  at_item : (xs : List A) (k : ℕ) (a : A) (w : Y) → slice_get xs k ≡ Some a → first give (take k xs) ≡ None → other a ≡ Some w → first other xs ≡ Some w
+  at_item [] k a w e none is = absurd (cc)
+  at_item (b ∷ xs) zero a w e none is = ap (λ o. option_or o (first other xs)) (ap other (same_Some b a e) ∙ is)
+  at_item (b ∷ xs) (suc k) a w e none is = go (give b) refl none (λ n. at_item xs k a w e n is)
+    where
+      go : (o : Option X) → give b ≡ o → option_or o (first give (take k xs)) ≡ None → (first give (take k xs) ≡ None → first other xs ≡ Some w)
+          → option_or (other b) (first other xs) ≡ Some w
+      go (Some v) q n later = absurd (cc)
+      go None q n later = ap (λ o. option_or o (first other xs)) (silent b q) ∙ later n
+
+  pub same_item : (xs : List A) (v : X) (s : Answers give xs v) (w : Y) → other s.item ≡ Some w → first other xs ≡ Some w
+  same_item xs v s w = at_item xs s.place s.item w s.there s.earlier
 
 -- ---- other lists, and other answers
 
@@ -87,6 +119,16 @@ first_same give take (a ∷ xs) h = ap (λ o. option_or o (first give xs)) (h a)
 pub first_flat : {A B X : Type 0} (give : B → Option X) (f : A → List B) (xs : List A) → first give (flat_map f xs) ≡ first (λ a. first give (f a)) xs
 first_flat give f [] = refl
 first_flat give f (a ∷ xs) = first_more give (f a) (flat_map f xs) ∙ ap (option_or (first give (f a))) (first_flat give f xs)
+
+-- items that are asked without their places
+pub first_numbered : {A X : Type 0} (give : A → Option X) (k : ℕ) (xs : List A) → first (λ p. give p.1) (numbered k xs) ≡ first give xs
+first_numbered give k [] = refl
+first_numbered give k (a ∷ xs) = ap (option_or (give a)) (first_numbered give (suc k) xs)
+
+pub get_numbered : {A : Type 0} (k : ℕ) (xs : List A) (n : ℕ) (p : ℕ × A) → slice_get (numbered k xs) n ≡ Some p → (p.0 ≡ k + n) × (slice_get xs n ≡ Some p.1)
+get_numbered k [] n p e = absurd (cc)
+get_numbered k (a ∷ xs) zero p e = (ap (λ z. z.0) (sym (same_Some (k, a) p e)) ∙ omega arith, ap (λ z. Some z.1) (same_Some (k, a) p e))
+get_numbered k (a ∷ xs) (suc n) p e = let h = get_numbered (suc k) xs n p e in (let l = h.0 in omega (arith, l), h.1)
 
 -- answers alike of each item
 module _ {A X Y : Type 0} (R : X → Y → Type 0) (give : A → Option X) (take : A → Option Y) (alike : (a : A) → Alike R (give a) (take a)) where
