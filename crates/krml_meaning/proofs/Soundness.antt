@@ -1,7 +1,6 @@
 -- A run of a well typed expression is sound: by recursion on what says that it has its type.
-use Rattle.std.proofs.Common.{◌≡◌, ℕ, Bool, true, false, if◌then◌else◌, List, [], ◌∷◌, map, length, slice_get, Some, refl, sym, ap, ◌∙◌, subst}
+use Rattle.std.proofs.Common.{◌≡◌, ℕ, false, List, [], ◌∷◌, map, length, slice_get, Some, refl, sym, ap, ◌∙◌, subst}
 use Rattle.std.specs.List.{AllByRecursion}
-use Rattle.std.specs.Str.{bytes_eq}
 use Rattle.krml_trace.specs.declared.width.Width.TheVariants.{W32}
 use Rattle.krml_syntax.specs.declared.tree.IntTy.{IntTy}
 use Rattle.krml_syntax.specs.declared.tree.Ty.{Ty}
@@ -25,7 +24,7 @@ use Rattle.krml_meaning.specs.State.{Block, Env, Sem, closed}
 use Rattle.krml_meaning.specs.Numbered.{Numbered}
 use Rattle.krml_meaning.specs.Meaning as src
 use Rattle.krml_meaning.specs.Shape.{HasShape}
-use Rattle.krml_meaning.proofs.Lists.{map_length, each_so, each_get, same_some, no_some}
+use Rattle.krml_meaning.proofs.Lists.{map_length, each_so, each_get}
 use Rattle.krml_meaning.proofs.Facts.{Facts, InSum}
 use Rattle.krml_syntax.proofs.Types.{at_none}
 use Rattle.krml_meaning.proofs.Closing.{close, close_written, close_bool, close_unit, close_int, close_buf, close_named, close_at, close_at_written, close_at_passed, all_are, fields_are, arguments_passed, arguments_written, result_closed}

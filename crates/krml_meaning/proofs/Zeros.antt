@@ -1,7 +1,6 @@
 -- Types of files without type variables have zero values.
-use Rattle.std.proofs.Common.{◌≡◌, ℕ, zero, suc, ◌≤◌, Bool, true, false, if◌then◌else◌, List, [], ◌∷◌, ◌++◌, map, length, flat_map, Option, Some, None, option_map, option_and_then, ◌⊎◌, inl, inr, refl, sym, ap, ◌∙◌, subst, arith, append_assoc, pow_pos}
+use Rattle.std.proofs.Common.{◌≡◌, ℕ, zero, suc, ◌≤◌, false, List, [], ◌∷◌, ◌++◌, map, length, flat_map, Option, Some, option_map, option_and_then, ◌⊎◌, inl, inr, refl, sym, ap, ◌∙◌, subst, arith, append_assoc, pow_pos}
 use Rattle.std.specs.List.{AllByRecursion}
-use Rattle.std.specs.Str.{bytes_eq}
 use Rattle.krml_trace.specs.Width.{bits}
 use Rattle.krml_syntax.specs.declared.tree.IntTy.{IntTy}
 use Rattle.krml_syntax.specs.declared.tree.Ty.{Ty}
@@ -22,7 +21,7 @@ use Rattle.krml_meaning.specs.declared.value.Value.{Value}
 use Rattle.krml_meaning.specs.declared.value.Value.TheVariants as v
 use Rattle.krml_meaning.specs.Meaning.{all_some, zero_of, zero_in, zero_within}
 use Rattle.krml_meaning.specs.Shape.{HasShape, AllHaveShape}
-use Rattle.krml_meaning.proofs.Lists.{each_get, same_some, no_some, each_so, each_among, each_contains}
+use Rattle.krml_meaning.proofs.Lists.{each_get, no_some, each_so, each_among, each_contains}
 use Rattle.krml_syntax.proofs.Types.{erased_bool, erased_unit, erased_int, erased_named, at_none}
 use Rattle.krml_meaning.proofs.Earlier.{Settled, none_settled, flat_more}
 use Rattle.krml_meaning.proofs.Files.{through, new_fields, new_cons, settled_more}
