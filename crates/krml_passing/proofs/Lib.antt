@@ -6,4 +6,5 @@ pub mod Passes
 pub mod Patterns
 pub mod Renamed
 pub mod RunsAs
+pub mod Starts
 pub mod Values

@@ -29,6 +29,16 @@ pub runs_then : (entry entry' : List ℕ → List ℕ) (event event' : SourceEve
 runs_then entry entry' event event' file middle to h k x args bound = k (entry x) args bound ∙ ap (run_image event') (h x args bound)
     ∙ ap (λ es. record { outcome = (src.source_run file x args bound).outcome; events = es }) (map_twice event event' (src.source_run file x args bound).events)
 
+-- ---- what runs begin with
+
+module _ (im : Images) where
+  abbrev pub passed_image : src.Passed → src.Passed
+  passed_image p = record { given = vars_image im p.given; memory = memory_image im p.memory; events = events_image im p.events }
+
+  -- what a run of the second file begins with
+  abbrev pub start_image : (src.Function → src.Function) → src.Start → src.Start
+  start_image fun b = record { function = fun b.function; passed = passed_image b.passed }
+
 module _ (im : Images) (all : (w : Why) → im.keeps w ≡ true) where
   -- ---- results
 
@@ -76,29 +86,25 @@ module _ (im : Images) (all : (w : Why) → im.keeps w ≡ true) where
 
   -- ---- files
 
-  abbrev pub passed_image : src.Passed → src.Passed
-  passed_image p = record { given = vars_image im p.given; memory = memory_image im p.memory; events = events_image im p.events }
-
-  -- what a run of the second file begins with
-  abbrev pub start_image : (src.Function → src.Function) → src.Start → src.Start
-  start_image fun b = record { function = fun b.function; passed = passed_image b.passed }
-
   -- The two files begin their runs alike, and from there the second does what the first does.
   module _ (file to : SourceFile) (entry_image : List ℕ → List ℕ) (fun : src.Function → src.Function)
-      (begins : (entry : List ℕ) (args : List Arg) → src.start to (entry_image entry) args ≡ option_map (start_image fun) (src.start file entry args)) where
-    pub runs_as : ((bound : Bound) (b : src.Start)
-        → Alike im (IsImage im) (host.run_from (src.called_by_host file) bound b) (host.run_from (src.called_by_host to) bound (start_image fun b)))
+      (begins : (entry : List ℕ) (args : List Arg) → src.start to (entry_image entry) args ≡ option_map (start_image im fun) (src.start file entry args)) where
+    pub runs_as : ((entry : List ℕ) (args : List Arg) (bound : Bound) (b : src.Start) → src.start file entry args ≡ Some b
+        → Alike im (IsImage im) (host.run_from (src.called_by_host file) bound b) (host.run_from (src.called_by_host to) bound (start_image im fun b)))
         → RunsAs entry_image (event_image im) file to
-    runs_as goes entry args bound = ap (host.run_started src.seen (src.called_by_host to) bound) (begins entry args.items) ∙ go (src.start file entry args.items)
+    runs_as goes entry args bound = ap (host.run_started src.seen (src.called_by_host to) bound) (begins entry args.items)
+        ∙ go (src.start file entry args.items) (goes entry args.items bound)
       where
-        go : (o : Option src.Start) → host.run_started src.seen (src.called_by_host to) bound (option_map (start_image fun) o)
+        go : (o : Option src.Start)
+            → ((b : src.Start) → o ≡ Some b → Alike im (IsImage im) (host.run_from (src.called_by_host file) bound b) (host.run_from (src.called_by_host to) bound (start_image im fun b)))
+            → host.run_started src.seen (src.called_by_host to) bound (option_map (start_image im fun) o)
             ≡ run_image (event_image im) (host.run_started src.seen (src.called_by_host file) bound o)
-        go None = refl
-        go (Some b) = rw (length-map b.passed.memory (block_image im)) (run_of_image (length b.passed.memory) (host.run_from (src.called_by_host file) bound b) _ (goes bound b))
+        go None k = refl
+        go (Some b) k = rw (length-map b.passed.memory (block_image im)) (run_of_image (length b.passed.memory) (host.run_from (src.called_by_host file) bound b) _ (k b refl))
 
     pub fits_as : FitsAs entry_image file to
     fits_as entry args h = subst IsSome (sym (begins entry args.items)) (go (src.start file entry args.items) h)
       where
-        go : (o : Option src.Start) → IsSome o → IsSome (option_map (start_image fun) o)
+        go : (o : Option src.Start) → IsSome o → IsSome (option_map (start_image im fun) o)
         go (Some b) f = f
         go None f = f
