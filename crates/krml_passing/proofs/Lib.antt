@@ -1,6 +1,7 @@
 pub mod Alike
 pub mod Forms
 pub mod Lookups
+pub mod Named
 pub mod Numbered
 pub mod Passes
 pub mod Patterns
