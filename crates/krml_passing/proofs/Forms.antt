@@ -33,23 +33,49 @@ use Rattle.krml_passing.proofs.Alike.{BothTurned, alike_goes, alike_ends, alike_
 use Rattle.krml_passing.proofs.Values as is
 use Rattle.krml_passing.proofs.Values.{first_image, number_alike, number_is_alike, truth_alike, buffer_alike, struct_alike, con_alike}
 
+-- ---- what is asked of names that are looked up
+
+-- A constructor keeps its place in its sum, whatever else becomes of it.
+pub record SameCon (defs defs' : List Def) (x x' : List ℕ) : Type 0 where
+  pub to : ℕ × List Ty → ℕ × List Ty
+  pub is : src.con_place defs' x' ≡ option_map to (src.con_place defs x)
+  pub place : (p : ℕ × List Ty) → (to p).0 ≡ p.0
+
+-- the zero value of an argument of a constructor is the image of that before
+abbrev pub SameZero : (im : Images) (defs defs' : List Def) (x x' : List ℕ) → SameCon defs defs' x x' → ℕ → Type 0
+SameZero im defs defs' x x' c j = (p : ℕ × List Ty) → src.con_place defs x ≡ Some p
+    → option_and_then (src.zero_value defs') (slice_get (c.to p).1 j)
+    ≡ option_map im.value (option_and_then (src.zero_value defs) (slice_get p.1 j))
+
+abbrev pub table_image : Images → src.Table → src.Table
+table_image im t = record t { place = im.place t.place }
+
 module _ (im : Images) where
   -- ---- what is known of parts
 
   -- of a relation of scopes alone, whatever the memory
-  pub steady : (I : Scopes) {a a' : Sem} → ((env env' : Env) (m m1 : List Block) → I env env' m → I env env' m1) → Same im I a a' → Does im I any a a'
-  steady I {a = a} {a' = a'} k h = record { run = λ env env' s i. alike_so im (IsImage im) (Gives im I any env env') (a env s) _ (h.run env env' s i) (λ x x' m e. (e, tt, k env env' s.memory m i)) }
+  pub steady : (I : Scopes) {a a' : Sem} → ((env env' : Env) (m m1 : List Block) → I env env' m → I env env' m1) → Same im I a a'
+      → Does im I any a a'
+  steady I {a = a} {a' = a'} k h = record {
+    run = λ env env' s i. alike_so im (IsImage im) (Gives im I any env env') (a env s) _
+        (h.run env env' s i) (λ x x' m e. (e, tt, k env env' s.memory m i));
+  }
 
   -- of a typed run
-  pub typed : (I : Scopes) (P : Of Value) {a a' : Sem} → ((env env' : Env) (s : SourceState) → I env env' s.memory → After (λ x s1. P x s1.memory × I env env' s1.memory) (a env s))
+  pub typed : (I : Scopes) (P : Of Value) {a a' : Sem} → ((env env' : Env) (s : SourceState) → I env env' s.memory
+      → After (λ x s1. P x s1.memory × I env env' s1.memory) (a env s))
       → Same im I a a' → Does im I P a a'
   typed I P {a = a} {a' = a'} k h = record {
-    run = λ env env' s i. alike_after im (λ x s1. P x s1.memory × I env env' s1.memory) (IsImage im) (Gives im I P env env') (a env s) _ (k env env' s i) (h.run env env' s i) (λ x x' s1 p e. (e, p.0, p.1));
+    run = λ env env' s i. alike_after im (λ x s1. P x s1.memory × I env env' s1.memory) (IsImage im) (Gives im I P env env') (a env s) _
+        (k env env' s i) (h.run env env' s i) (λ x x' s1 p e. (e, p.0, p.1));
   }
 
   -- less may be said
   pub forget : {I : Scopes} {P : Of Value} {a a' : Sem} → Does im I P a a' → Same im I a a'
-  forget {I = I} {P = P} {a = a} h = record { run = λ env env' s i. alike_so im (Gives im I P env env') (IsImage im) (a env s) _ (h.run env env' s i) (λ x x' m e. e.0) }
+  forget {I = I} {P = P} {a = a} h = record {
+    run = λ env env' s i. alike_so im (Gives im I P env env') (IsImage im) (a env s) _
+        (h.run env env' s i) (λ x x' m e. e.0);
+  }
 
   module _ (I : Scopes) where
     gives : (x x' : Value) (s : SourceState) → im.value x ≡ x' → Alike im (IsImage im) (Goes x s) (Goes x' (state_image im s))
@@ -57,47 +83,63 @@ module _ (im : Images) where
 
     -- ---- values that are there
 
-    pub var_same : (x x' : List ℕ) → ((env env' : Env) (m : List Block) → I env env' m → value_of env'.vars x' ≡ option_map im.value (value_of env.vars x)) → Same im I (src.var x) (src.var x')
-    var_same x x' h = record { run = λ env env' s i. alike_some im (IsImage im) im.value Undefined (value_of env.vars x) _ s _ _ (h env env' s.memory i) (λ y e. gives y (im.value y) s refl) }
+    pub var_same : (x x' : List ℕ) → ((env env' : Env) (m : List Block) → I env env' m
+        → value_of env'.vars x' ≡ option_map im.value (value_of env.vars x)) → Same im I (src.var x) (src.var x')
+    var_same x x' h = record {
+      run = λ env env' s i. alike_some im (IsImage im) im.value Undefined (value_of env.vars x) _ s _ _
+          (h env env' s.memory i) (λ y e. gives y (im.value y) s refl);
+    }
 
     pub just_same : (x x' : Value) → im.value x ≡ x' → Same im I (src.just x) (src.just x')
     just_same x x' h = record { run = λ env env' s i. gives x x' s h }
 
     -- ---- numbers
 
-    pub operands_alike : {A A' : Type 0} (Q : Both A A') (w w' : Width) {P P' : Of Value} {a b a' b' : Sem} → Does im I P a a' → Does im I P' b b' → (env env' : Env) (s : SourceState)
+    pub operands_alike : {A A' : Type 0} (Q : Both A A') (w w' : Width) {P P' : Of Value} {a b a' b' : Sem} → Does im I P a a'
+        → Does im I P' b b' → (env env' : Env) (s : SourceState)
         (next : ℕ → ℕ → SourceState → SourceRan A) (next' : ℕ → ℕ → SourceState → SourceRan A') → I env env' s.memory
         → ((m n : ℕ) (s : SourceState) → I env env' s.memory → Alike im Q (next m n s) (next' m n (state_image im s)))
         → Alike im Q (src.operands w w' a b env s next) (src.operands w w' a' b' env' (state_image im s) next')
     operands_alike Q w w' {P = P} {P' = P'} {a = a} {b = b} ha hb env env' s next next' i k =
-        alike_bind im (Gives im I P env env') Q (a env s) _ _ _ (ha.run env env' s i) (λ x x' s1 g. alike_bind im (Gives im I P' env env') Q (b env s1) _ _ _ (hb.run env env' s1 g.2) (λ y y' s2 g'.
+        alike_bind im (Gives im I P env env') Q (a env s) _ _ _ (ha.run env env' s i) (λ x x' s1 g. alike_bind im (Gives im I P' env env') Q
+        (b env s1) _ _ _ (hb.run env env' s1 g.2) (λ y y' s2 g'.
         number_alike im Q w x x' g.0 s2 _ _ (λ m. number_alike im Q w' y y' g'.0 s2 _ _ (λ n. k m n s2 g'.2))))
 
     -- the same with what the second operand is
-    operands_are : {A A' : Type 0} (Q : Both A A') (w w' : Width) {P P' : Of Value} {a b a' b' : Sem} → Does im I P a a' → Does im I P' b b' → (env env' : Env) (s : SourceState)
+    operands_are : {A A' : Type 0} (Q : Both A A') (w w' : Width) {P P' : Of Value} {a b a' b' : Sem} → Does im I P a a' → Does im I P' b b'
+        → (env env' : Env) (s : SourceState)
         (next : ℕ → ℕ → SourceState → SourceRan A) (next' : ℕ → ℕ → SourceState → SourceRan A') → I env env' s.memory
-        → ((m n : ℕ) (s : SourceState) (y : Value) (u : Width) → I env env' s.memory → P' y s.memory → out-Value y ≡ Value-F.Num u n → same_width w' u ≡ true
+        → ((m n : ℕ) (s : SourceState) (y : Value) (u : Width) → I env env' s.memory → P' y s.memory → out-Value y ≡ Value-F.Num u n
+        → same_width w' u ≡ true
         → Alike im Q (next m n s) (next' m n (state_image im s)))
         → Alike im Q (src.operands w w' a b env s next) (src.operands w w' a' b' env' (state_image im s) next')
     operands_are Q w w' {P = P} {P' = P'} {a = a} {b = b} ha hb env env' s next next' i k =
-        alike_bind im (Gives im I P env env') Q (a env s) _ _ _ (ha.run env env' s i) (λ x x' s1 g. alike_bind im (Gives im I P' env env') Q (b env s1) _ _ _ (hb.run env env' s1 g.2) (λ y y' s2 g'.
-        number_alike im Q w x x' g.0 s2 _ _ (λ m. number_is_alike im Q w' y y' g'.0 s2 _ _ (λ u n is same. k m n s2 y u g'.2 g'.1 is same))))
+        alike_bind im (Gives im I P env env') Q (a env s) _ _ _ (ha.run env env' s i) (λ x x' s1 g. alike_bind im (Gives im I P' env env') Q
+        (b env s1) _ _ _ (hb.run env env' s1 g.2) (λ y y' s2 g'.
+        number_alike im Q w x x' g.0 s2 _ _ (λ m. number_is_alike im Q w' y y' g'.0 s2 _ _
+        (λ u n is same. k m n s2 y u g'.2 g'.1 is same))))
 
-    pub binary_same : (o : BinOp) (t : IntTy) {P P' : Of Value} {a b a' b' : Sem} → Does im I P a a' → Does im I P' b b' → Same im I (src.binary o t a b) (src.binary o t a' b')
+    pub binary_same : (o : BinOp) (t : IntTy) {P P' : Of Value} {a b a' b' : Sem} → Does im I P a a' → Does im I P' b b'
+        → Same im I (src.binary o t a b) (src.binary o t a' b')
     binary_same o t ha hb = record {
       run = λ env env' s i. operands_alike (IsImage im) t.width t.width ha hb env env' s _ _ i (λ m n s1 i1.
-          alike_check im (IsImage im) (Stuck cause.Divisor) (src.has_result o n) s1 _ _ (gives _ _ s1 (is.num_value im t.width (src.result_of o t.width m n))));
+          alike_check im (IsImage im) (Stuck cause.Divisor) (src.has_result o n) s1 _ _
+          (gives _ _ s1 (is.num_value im t.width (src.result_of o t.width m n))));
     }
 
-    pub shift_same : (left : Bool) (t : IntTy) {P P' : Of Value} {a b a' b' : Sem} → Does im I P a a' → Does im I P' b b' → Same im I (src.shift left t a b) (src.shift left t a' b')
+    pub shift_same : (left : Bool) (t : IntTy) {P P' : Of Value} {a b a' b' : Sem} → Does im I P a a' → Does im I P' b b'
+        → Same im I (src.shift left t a b) (src.shift left t a' b')
     shift_same left t ha hb = record {
       run = λ env env' s i. operands_alike (IsImage im) t.width W32 ha hb env env' s _ _ i (λ m n s1 i1.
-          alike_check im (IsImage im) (Stuck cause.Shift) (nat_lt n (bits t.width)) s1 _ _ (gives _ _ s1 (is.num_value im t.width (src.shifted left t.width m n))));
+          alike_check im (IsImage im) (Stuck cause.Shift) (nat_lt n (bits t.width)) s1 _ _
+          (gives _ _ s1 (is.num_value im t.width (src.shifted left t.width m n))));
     }
 
-    pub compare_same : (o : CmpOp) (t : IntTy) {P P' : Of Value} {a b a' b' : Sem} → Does im I P a a' → Does im I P' b b' → Same im I (src.compare o t a b) (src.compare o t a' b')
+    pub compare_same : (o : CmpOp) (t : IntTy) {P P' : Of Value} {a b a' b' : Sem} → Does im I P a a' → Does im I P' b b'
+        → Same im I (src.compare o t a b) (src.compare o t a' b')
     compare_same o t ha hb = record {
-      run = λ env env' s i. operands_alike (IsImage im) t.width t.width ha hb env env' s _ _ i (λ m n s1 i1. gives _ _ s1 (is.bool_value im (src.compared o m n)));
+      run = λ env env' s i. operands_alike (IsImage im) t.width t.width ha hb env env' s _ _ i
+          (λ m n s1 i1. gives _ _ s1 (is.bool_value im (src.compared o m n)));
     }
 
     pub opposite_same : {P : Of Value} {a a' : Sem} → Does im I P a a' → Same im I (src.opposite a) (src.opposite a')
@@ -125,8 +167,14 @@ module _ (im : Images) where
     values_alike Each.none env env' s i = alike_goes im (GivesAll im I any env env') [] [] s (refl, tt, i)
     values_alike (Each.one {x = a} {xs = more} h hs) env env' s i =
         alike_bind im (Gives im I any env env') (GivesAll im I any env env') (a env s) _ _ _ (h.run env env' s i) (λ x x' s1 g.
-        alike_bind im (GivesAll im I any env env') (GivesAll im I any env env') (src.values more env s1) _ _ _ (values_alike hs env env' s1 g.2) (λ xs xs' s2 gs.
-        alike_goes im (GivesAll im I any env env') (x ∷ xs) (x' ∷ xs') s2 (ap (λ z. z ∷ xs') g.0 ∙ ap (λ z. im.value x ∷ z) gs.0, tt, gs.2)))
+        alike_bind im (GivesAll im I any env env') (GivesAll im I any env env') (src.values more env s1) _ _ _
+        (values_alike hs env env' s1 g.2) (λ xs xs' s2 gs.
+        alike_goes im (GivesAll im I any env env') (x ∷ xs) (x' ∷ xs') s2 (
+          ap (λ z. z ∷ xs') g.0
+              ∙ ap (λ z. im.value x ∷ z) gs.0,
+          tt,
+          gs.2,
+        )))
 
     pub all_do : {es es' : List Sem} → Each (Does im I any) es es' → DoAll im I any es es'
     all_do hs = record { run = values_alike hs }
@@ -134,62 +182,62 @@ module _ (im : Images) where
     -- ---- structs and sums
 
     module _ (defs defs' : List Def) where
-      pub make_same : (x x' : List ℕ) → src.fields_of (type_named defs' x') ≡ option_map (map im.field) (src.fields_of (type_named defs x)) → {P : Of (List Value)} {es es' : List Sem}
+      pub make_same : (x x' : List ℕ) → src.fields_of (type_named defs' x') ≡ option_map (map im.field) (src.fields_of (type_named defs x))
+          → {P : Of (List Value)} {es es' : List Sem}
           → DoAll im I P es es' → Same im I (src.make defs x es) (src.make defs' x' es')
       make_same x x' e {P = P} {es = es} hs = record {
-        run = λ env env' s i. alike_bind im (GivesAll im I P env env') (IsImage im) (src.values es env s) _ _ _ (hs.run env env' s i) (λ xs xs' s1 g.
+        run = λ env env' s i. alike_bind im (GivesAll im I P env env') (IsImage im) (src.values es env s) _ _ _ (hs.run env env' s i)
+            (λ xs xs' s1 g.
             alike_some im (IsImage im) (map im.field) Undefined (src.fields_of (type_named defs x)) _ s1 _ _ e (λ names is_names.
             gives _ _ s1 (is.struct_value im names xs ∙ ap (v.Struct (map im.field names)) (sym g.0))));
       }
 
-      -- A constructor keeps its place, whatever else becomes of it.
-      pub record SameCon (x x' : List ℕ) : Type 0 where
-        pub to : ℕ × List Ty → ℕ × List Ty
-        pub is : src.con_place defs' x' ≡ option_map to (src.con_place defs x)
-        pub place : (p : ℕ × List Ty) → (to p).0 ≡ p.0
-
-      pub con_same : (x x' : List ℕ) → SameCon x x' → {P : Of (List Value)} {es es' : List Sem} → DoAll im I P es es' → Same im I (src.con defs x es) (src.con defs' x' es')
+      pub con_same : (x x' : List ℕ) → SameCon defs defs' x x' → {P : Of (List Value)} {es es' : List Sem} → DoAll im I P es es'
+          → Same im I (src.con defs x es) (src.con defs' x' es')
       con_same x x' c {P = P} {es = es} hs = record {
-        run = λ env env' s i. alike_bind im (GivesAll im I P env env') (IsImage im) (src.values es env s) _ _ _ (hs.run env env' s i) (λ xs xs' s1 g.
+        run = λ env env' s i. alike_bind im (GivesAll im I P env env') (IsImage im) (src.values es env s) _ _ _ (hs.run env env' s i)
+            (λ xs xs' s1 g.
             alike_some im (IsImage im) c.to Undefined (src.con_place defs x) _ s1 _ _ c.is (λ p is_p.
-            gives _ _ s1 (is.con_value im p.0 xs ∙ ap (λ k. v.Con k (map im.value xs)) (sym (c.place p)) ∙ ap (v.Con (c.to p).0) (sym g.0))));
+            gives _ _ s1 (is.con_value im p.0 xs ∙ ap (λ k. v.Con k (map im.value xs)) (sym (c.place p))
+            ∙ ap (v.Con (c.to p).0) (sym g.0))));
       }
 
-      pub tag_is_same : (x x' : List ℕ) → SameCon x x' → {P : Of Value} {a a' : Sem} → Does im I P a a' → Same im I (src.tag_is defs x a) (src.tag_is defs' x' a')
+      pub tag_is_same : (x x' : List ℕ) → SameCon defs defs' x x' → {P : Of Value} {a a' : Sem} → Does im I P a a'
+          → Same im I (src.tag_is defs x a) (src.tag_is defs' x' a')
       tag_is_same x x' c {P = P} {a = a} ha = record {
-        run = λ env env' s i. alike_bind im (Gives im I P env env') (IsImage im) (a env s) _ _ _ (ha.run env env' s i) (λ y y' s1 g. con_alike im (IsImage im) y y' g.0 s1 _ _ (λ k xs.
-            alike_some im (IsImage im) c.to Undefined (src.con_place defs x) _ s1 _ _ c.is (λ p is_p. gives _ _ s1 (is.bool_value im (k == p.0) ∙ ap (λ n. v.Bool (k == n)) (sym (c.place p))))));
+        run = λ env env' s i. alike_bind im (Gives im I P env env') (IsImage im) (a env s) _ _ _ (ha.run env env' s i)
+            (λ y y' s1 g. con_alike im (IsImage im) y y' g.0 s1 _ _ (λ k xs.
+            alike_some im (IsImage im) c.to Undefined (src.con_place defs x) _ s1 _ _ c.is
+            (λ p is_p. gives _ _ s1 (is.bool_value im (k == p.0) ∙ ap (λ n. v.Bool (k == n)) (sym (c.place p))))));
       }
-
-      -- the zero value of a part is the image of that of its type
-      abbrev pub SameZero : (x x' : List ℕ) → SameCon x x' → ℕ → Type 0
-      SameZero x x' c j = (p : ℕ × List Ty) → src.con_place defs x ≡ Some p
-          → option_and_then (src.zero_value defs') (slice_get (c.to p).1 j) ≡ option_map im.value (option_and_then (src.zero_value defs) (slice_get p.1 j))
 
       part_or : (b : Bool) (xs : List Value) (j : ℕ) (o o' : Option Value) → o' ≡ option_map im.value o
           → (if b then slice_get (map im.value xs) j else o') ≡ option_map im.value (if b then slice_get xs j else o)
       part_or true xs j o o' h = slice_get-map im.value xs j
       part_or false xs j o o' h = h
 
-      pub part_same : (x x' : List ℕ) (j : ℕ) (c : SameCon x x') → SameZero x x' c j → {P : Of Value} {a a' : Sem} → Does im I P a a' → Same im I (src.part defs x j a) (src.part defs' x' j a')
+      pub part_same : (x x' : List ℕ) (j : ℕ) (c : SameCon defs defs' x x') → SameZero im defs defs' x x' c j → {P : Of Value} {a a' : Sem}
+          → Does im I P a a' → Same im I (src.part defs x j a) (src.part defs' x' j a')
       part_same x x' j c z {P = P} {a = a} ha = record {
-        run = λ env env' s i. alike_bind im (Gives im I P env env') (IsImage im) (a env s) _ _ _ (ha.run env env' s i) (λ y y' s1 g. con_alike im (IsImage im) y y' g.0 s1 _ _ (λ k xs.
+        run = λ env env' s i. alike_bind im (Gives im I P env env') (IsImage im) (a env s) _ _ _ (ha.run env env' s i)
+            (λ y y' s1 g. con_alike im (IsImage im) y y' g.0 s1 _ _ (λ k xs.
             alike_some im (IsImage im) c.to Undefined (src.con_place defs x) _ s1 _ _ c.is (λ p is_p.
-            alike_some im (IsImage im) im.value Undefined (if k == p.0 then slice_get xs j else option_and_then (src.zero_value defs) (slice_get p.1 j)) _ s1 _ _
-            (ap (λ n. if k == n then slice_get (map im.value xs) j else option_and_then (src.zero_value defs') (slice_get (c.to p).1 j)) (c.place p)
+            alike_some im (IsImage im) im.value Undefined (if k == p.0 then slice_get xs j else option_and_then (src.zero_value defs)
+            (slice_get p.1 j)) _ s1 _ _
+            (ap (λ n. if k == n then slice_get (map im.value xs) j else option_and_then (src.zero_value defs') (slice_get (c.to p).1 j))
+            (c.place p)
             ∙ part_or (k == p.0) xs j _ _ (z p is_p)) (λ y1 e. gives _ _ s1 refl))));
       }
 
       -- ---- tables
 
-      abbrev pub table_image : src.Table → src.Table
-      table_image t = record t { place = im.place t.place }
-
-      pub tab_same : (x x' : List ℕ) → src.table_from 0 defs' x' ≡ option_map table_image (src.table_from 0 defs x) → {P : Of Value} {a a' : Sem} → Does im I P a a'
+      pub tab_same : (x x' : List ℕ) → src.table_from 0 defs' x' ≡ option_map (table_image im) (src.table_from 0 defs x)
+          → {P : Of Value} {a a' : Sem} → Does im I P a a'
           → Same im I (src.tab defs x a) (src.tab defs' x' a')
       tab_same x x' e {P = P} {a = a} ha = record {
-        run = λ env env' s i. alike_bind im (Gives im I P env env') (IsImage im) (a env s) _ _ _ (ha.run env env' s i) (λ y y' s1 g. number_alike im (IsImage im) W32 y y' g.0 s1 _ _ (λ k.
-            alike_some im (IsImage im) table_image Undefined (src.table_from 0 defs x) _ s1 _ _ e (λ t is_t.
+        run = λ env env' s i. alike_bind im (Gives im I P env env') (IsImage im) (a env s) _ _ _ (ha.run env env' s i)
+            (λ y y' s1 g. number_alike im (IsImage im) W32 y y' g.0 s1 _ _ (λ k.
+            alike_some im (IsImage im) (table_image im) Undefined (src.table_from 0 defs x) _ s1 _ _ e (λ t is_t.
             alike_some im (IsImage im) (λ n. n) (Stuck cause.Index) (slice_get t.nums k) _ s1 _ _ (itself (slice_get t.nums k)) (λ n is_n.
             gives _ _ (leave (event.Tab t.place k) s1) (is.num_value im t.ty.width n)))));
       }
@@ -198,30 +246,38 @@ module _ (im : Images) where
           itself (Some n) = refl
           itself None = refl
 
-    field_of_image : (names : List (List ℕ)) (xs : List Value) (y : List ℕ) → src.field_of (map im.field names) (map im.value xs) (im.field y) ≡ option_map im.value (src.field_of names xs y)
+    field_of_image : (names : List (List ℕ)) (xs : List Value) (y : List ℕ)
+        → src.field_of (map im.field names) (map im.value xs) (im.field y) ≡ option_map im.value (src.field_of names xs y)
     field_of_image [] xs y = refl
     field_of_image (x ∷ names) [] y = refl
     field_of_image (x ∷ names) (z ∷ xs) y = rw (im.apart x y) (first_image im.value (bytes_eq x y) z _ _ (field_of_image names xs y))
 
     pub get_same : (y : List ℕ) {P : Of Value} {a a' : Sem} → Does im I P a a' → Same im I (src.get y a) (src.get (im.field y) a')
     get_same y {P = P} {a = a} ha = record {
-      run = λ env env' s i. alike_bind im (Gives im I P env env') (IsImage im) (a env s) _ _ _ (ha.run env env' s i) (λ x x' s1 g. struct_alike im (IsImage im) x x' g.0 s1 _ _ (λ names xs.
-          alike_some im (IsImage im) im.value Undefined (src.field_of names xs y) _ s1 _ _ (field_of_image names xs y) (λ z e. gives _ _ s1 refl)));
+      run = λ env env' s i. alike_bind im (Gives im I P env env') (IsImage im) (a env s) _ _ _ (ha.run env env' s i)
+          (λ x x' s1 g. struct_alike im (IsImage im) x x' g.0 s1 _ _ (λ names xs.
+          alike_some im (IsImage im) im.value Undefined (src.field_of names xs y) _ s1 _ _ (field_of_image names xs y)
+          (λ z e. gives _ _ s1 refl)));
     }
 
     -- ---- buffers
 
     read_at_alike : (n j : ℕ) (s : SourceState) → Alike im (IsImage im) (src.read_at n j s) (src.read_at n j (state_image im s))
     read_at_alike n j s =
-        alike_some im (IsImage im) (block_image im) Undefined (slice_get s.memory n) _ s _ _ (slice_get-map (block_image im) s.memory n) (λ b e.
-        alike_some im (IsImage im) im.value Undefined (slice_get b.items j) _ s _ _ (slice_get-map im.value b.items j) (λ x e'. gives _ _ (leave (event.Read n j) s) refl))
+        alike_some im (IsImage im) (block_image im) Undefined (slice_get s.memory n) _ s _ _ (slice_get-map (block_image im) s.memory n)
+        (λ b e.
+        alike_some im (IsImage im) im.value Undefined (slice_get b.items j) _ s _ _ (slice_get-map im.value b.items j)
+        (λ x e'. gives _ _ (leave (event.Read n j) s) refl))
 
-    write_at_alike : (n j : ℕ) (x x' : Value) → x' ≡ im.value x → (s : SourceState) → Alike im (IsImage im) (src.write_at n j x s) (src.write_at n j x' (state_image im s))
+    write_at_alike : (n j : ℕ) (x x' : Value) → x' ≡ im.value x → (s : SourceState)
+        → Alike im (IsImage im) (src.write_at n j x s) (src.write_at n j x' (state_image im s))
     write_at_alike n j x x' e s =
-        alike_some im (IsImage im) (block_image im) Undefined (slice_get s.memory n) _ s _ _ (slice_get-map (block_image im) s.memory n) (λ b is_b.
+        alike_some im (IsImage im) (block_image im) Undefined (slice_get s.memory n) _ s _ _ (slice_get-map (block_image im) s.memory n)
+        (λ b is_b.
         alike_some im (IsImage im) im.value Undefined (slice_get b.items j) _ s _ _ (slice_get-map im.value b.items j) (λ old is_old.
         alike_to im (IsImage im) (Goes v.Unit (put n j x b (leave (event.Write n j) s)))
-        (ap (λ z. Goes v.Unit (put n j z (block_image im b) (state_image im (leave (event.Write n j) s)))) e ∙ ap (Goes v.Unit) (is.put_image im n j x b (leave (event.Write n j) s)))
+        (ap (λ z. Goes v.Unit (put n j z (block_image im b) (state_image im (leave (event.Write n j) s)))) e
+        ∙ ap (Goes v.Unit) (is.put_image im n j x b (leave (event.Write n j) s)))
         (gives v.Unit v.Unit (put n j x b (leave (event.Write n j) s)) (is.unit_value im))))
 
     pub read_same : {P P' : Of Value} {a b a' b' : Sem} → Does im I P a a' → Does im I P' b b' → Same im I (src.read a b) (src.read a' b')
@@ -232,7 +288,8 @@ module _ (im : Images) where
           alike_check im (IsImage im) (Stuck cause.Index) (nat_lt j len) s2 _ _ (read_at_alike n (off + j) s2)))));
     }
 
-    pub write_same : {P P' P'' : Of Value} {a b c a' b' c' : Sem} → Does im I P a a' → Does im I P' b b' → Does im I P'' c c' → Same im I (src.write a b c) (src.write a' b' c')
+    pub write_same : {P P' P'' : Of Value} {a b c a' b' c' : Sem} → Does im I P a a' → Does im I P' b b' → Does im I P'' c c'
+        → Same im I (src.write a b c) (src.write a' b' c')
     write_same {P = P} {P' = P'} {P'' = P''} {a = a} {b = b} {c = c} ha hb hc = record {
       run = λ env env' s i. alike_bind im (Gives im I P env env') (IsImage im) (a env s) _ _ _ (ha.run env env' s i) (λ x x' s1 g.
           alike_bind im (Gives im I P' env env') (IsImage im) (b env s1) _ _ _ (hb.run env env' s1 g.2) (λ y y' s2 g'.
@@ -241,49 +298,65 @@ module _ (im : Images) where
           alike_check im (IsImage im) (Stuck cause.Index) (nat_lt j len) s3 _ _ (write_at_alike n (off + j) z z' g''.0 s3))))));
     }
 
-    pub slice_same : {P P' P'' : Of Value} {a b c a' b' c' : Sem} → Does im I P a a' → Does im I P' b b' → Does im I P'' c c' → Same im I (src.slice a b c) (src.slice a' b' c')
+    pub slice_same : {P P' P'' : Of Value} {a b c a' b' c' : Sem} → Does im I P a a' → Does im I P' b b' → Does im I P'' c c'
+        → Same im I (src.slice a b c) (src.slice a' b' c')
     slice_same {P = P} {P' = P'} {P'' = P''} {a = a} {b = b} {c = c} ha hb hc = record {
       run = λ env env' s i. alike_bind im (Gives im I P env env') (IsImage im) (a env s) _ _ _ (ha.run env env' s i) (λ x x' s1 g.
           alike_bind im (Gives im I P' env env') (IsImage im) (b env s1) _ _ _ (hb.run env env' s1 g.2) (λ y y' s2 g'.
           alike_bind im (Gives im I P'' env env') (IsImage im) (c env s2) _ _ _ (hc.run env env' s2 g'.2) (λ z z' s3 g''.
-          buffer_alike im (IsImage im) x x' g.0 s3 _ _ (λ n off len. number_alike im (IsImage im) W32 y y' g'.0 s3 _ _ (λ j. number_alike im (IsImage im) W32 z z' g''.0 s3 _ _ (λ k.
+          buffer_alike im (IsImage im) x x' g.0 s3 _ _ (λ n off len. number_alike im (IsImage im) W32 y y' g'.0 s3 _ _
+          (λ j. number_alike im (IsImage im) W32 z z' g''.0 s3 _ _ (λ k.
           alike_check im (IsImage im) (Stuck cause.Slice) (nat_le (j + k) len) s3 _ _ (gives _ _ s3 (is.buf_value im n (off + j) k))))))));
     }
 
     -- ---- choices
 
-    pub choose_same : {P : Of Value} {c a b c' a' b' : Sem} → Does im I P c c' → Same im I a a' → Same im I b b' → Same im I (src.choose c a b) (src.choose c' a' b')
+    pub choose_same : {P : Of Value} {c a b c' a' b' : Sem} → Does im I P c c' → Same im I a a' → Same im I b b'
+        → Same im I (src.choose c a b) (src.choose c' a' b')
     choose_same {P = P} {c = c} hc ha hb = record {
-      run = λ env env' s i. alike_bind im (Gives im I P env env') (IsImage im) (c env s) _ _ _ (hc.run env env' s i) (λ x x' s1 g. truth_alike im (IsImage im) x x' g.0 s1 _ _ (λ t.
-          alike_if im (IsImage im) t _ _ _ _ (ha.run env env' (leave (event.If true) s1) g.2) (hb.run env env' (leave (event.If false) s1) g.2)));
+      run = λ env env' s i. alike_bind im (Gives im I P env env') (IsImage im) (c env s) _ _ _ (hc.run env env' s i)
+          (λ x x' s1 g. truth_alike im (IsImage im) x x' g.0 s1 _ _ (λ t.
+          alike_if im (IsImage im) t _ _ _ _ (ha.run env env' (leave (event.If true) s1) g.2)
+          (hb.run env env' (leave (event.If false) s1) g.2)));
     }
 
     -- A branch takes the same values of which P holds, and its body does the same in the scope that it leads to.
     pub record SameBranch (P : Of Value) (b b' : src.Branch) : Type 0 where
       pub takes : (x : Value) (m : List Block) → P x m → b'.takes (im.value x) ≡ option_map (vars_image im) (b.takes x)
-      pub body : (env env' : Env) (s : SourceState) (x : Value) (vars : Variables) → I env env' s.memory → P x s.memory → b.takes x ≡ Some vars
+      pub body : (env env' : Env) (s : SourceState) (x : Value) (vars : Variables) → I env env' s.memory → P x s.memory
+          → b.takes x ≡ Some vars
           → Alike im (IsImage im) (b.body (with_vars vars env) s) (b'.body (with_vars (vars_image im vars) env') (state_image im s))
 
-    pub match_same : {P : Of Value} {a a' : Sem} {branches branches' : List src.Branch} → Does im I P a a' → Each (SameBranch P) branches branches' → Same im I (src.match a branches) (src.match a' branches')
+    pub match_same : {P : Of Value} {a a' : Sem} {branches branches' : List src.Branch} → Does im I P a a'
+        → Each (SameBranch P) branches branches' → Same im I (src.match a branches) (src.match a' branches')
     match_same {P = P} {a = a} {branches = branches} {branches' = branches'} ha hs = record {
       run = λ env env' s i. alike_bind im (Gives im I P env env') (IsImage im) (a env s) _ _ _ (ha.run env env' s i) (λ x x' s1 g.
           alike_to im (IsImage im) (with_some (Stuck cause.Match) (src.first_branch 0 branches x) s1 _)
-          (ap (λ z. with_some (Stuck cause.Match) (src.first_branch 0 branches' z) (state_image im s1) (λ f. f.2 (with_vars f.1 env') (leave (event.Pick f.0) (state_image im s1)))) g.0)
+          (ap (λ z. with_some (Stuck cause.Match) (src.first_branch 0 branches' z) (state_image im s1)
+          (λ f. f.2 (with_vars f.1 env') (leave (event.Pick f.0) (state_image im s1)))) g.0)
           (first env env' s1 x g.2 g.1 0 branches branches' hs));
     }
       where
-        first : (env env' : Env) (s : SourceState) (x : Value) → I env env' s.memory → P x s.memory → (k : ℕ) (bs bs' : List src.Branch) → Each (SameBranch P) bs bs'
-            → Alike im (IsImage im) (with_some (Stuck cause.Match) (src.first_branch k bs x) s (λ f. f.2 (with_vars f.1 env) (leave (event.Pick f.0) s)))
-            (with_some (Stuck cause.Match) (src.first_branch k bs' (im.value x)) (state_image im s) (λ f. f.2 (with_vars f.1 env') (leave (event.Pick f.0) (state_image im s))))
+        first : (env env' : Env) (s : SourceState) (x : Value) → I env env' s.memory → P x s.memory → (k : ℕ) (bs bs' : List src.Branch)
+            → Each (SameBranch P) bs bs'
+            → Alike im (IsImage im) (with_some (Stuck cause.Match) (src.first_branch k bs x) s
+            (λ f. f.2 (with_vars f.1 env) (leave (event.Pick f.0) s)))
+            (with_some (Stuck cause.Match) (src.first_branch k bs' (im.value x)) (state_image im s)
+            (λ f. f.2 (with_vars f.1 env') (leave (event.Pick f.0) (state_image im s))))
         first env env' s x i p k bs bs' Each.none = alike_ends im (IsImage im) (Stuck cause.Match) s
-        first env env' s x i p k bs bs' (Each.one {x = b} {y = b'} {xs = more} {ys = more'} h hs) = rw (h.takes x s.memory p) (go (b.takes x) refl (first env env' s x i p (suc k) more more' hs))
+        first env env' s x i p k bs bs' (Each.one {x = b} {y = b'} {xs = more} {ys = more'} h hs) = rw (h.takes x s.memory p)
+            (go (b.takes x) refl (first env env' s x i p (suc k) more more' hs))
           where
             go : (o : Option Variables) → b.takes x ≡ o
-                → Alike im (IsImage im) (with_some (Stuck cause.Match) (src.first_branch (suc k) more x) s (λ f. f.2 (with_vars f.1 env) (leave (event.Pick f.0) s)))
-                (with_some (Stuck cause.Match) (src.first_branch (suc k) more' (im.value x)) (state_image im s) (λ f. f.2 (with_vars f.1 env') (leave (event.Pick f.0) (state_image im s))))
+                → Alike im (IsImage im) (with_some (Stuck cause.Match) (src.first_branch (suc k) more x) s
+                (λ f. f.2 (with_vars f.1 env) (leave (event.Pick f.0) s)))
+                (with_some (Stuck cause.Match) (src.first_branch (suc k) more' (im.value x)) (state_image im s)
+                (λ f. f.2 (with_vars f.1 env') (leave (event.Pick f.0) (state_image im s))))
                 → Alike im (IsImage im)
-                (with_some (Stuck cause.Match) (src.branch_or (option_map (λ vars. (k, vars, b.body)) o) (src.first_branch (suc k) more x)) s (λ f. f.2 (with_vars f.1 env) (leave (event.Pick f.0) s)))
-                (with_some (Stuck cause.Match) (src.branch_or (option_map (λ vars. (k, vars, b'.body)) (option_map (vars_image im) o)) (src.first_branch (suc k) more' (im.value x)))
+                (with_some (Stuck cause.Match) (src.branch_or (option_map (λ vars. (k, vars, b.body)) o) (src.first_branch (suc k) more x))
+                s (λ f. f.2 (with_vars f.1 env) (leave (event.Pick f.0) s)))
+                (with_some (Stuck cause.Match) (src.branch_or (option_map (λ vars. (k, vars, b'.body)) (option_map (vars_image im) o))
+                (src.first_branch (suc k) more' (im.value x)))
                 (state_image im s) (λ f. f.2 (with_vars f.1 env') (leave (event.Pick f.0) (state_image im s))))
             go (Some vars) e later = h.body env env' (leave (event.Pick k) s) x vars i p e
             go None e later = later
@@ -291,30 +364,36 @@ module _ (im : Images) where
     -- ---- what stands in a `do`
 
     pub bound_leads : {J : Scopes} (x x' : List ℕ) {P : Of Value} {a a' : Sem} → Does im I P a a'
-        → ((env env' : Env) (y : Value) (m : List Block) → I env env' m → P y m → J (with_vars ((x, y) ∷ []) env) (with_vars ((x', im.value y) ∷ []) env') m)
+        → ((env env' : Env) (y : Value) (m : List Block) → I env env' m → P y m
+        → J (with_vars ((x, y) ∷ []) env) (with_vars ((x', im.value y) ∷ []) env') m)
         → Leads im I J (src.bound x a) (src.bound x' a')
     bound_leads {J = J} x x' {P = P} {a = a} ha into = record {
       run = λ env env' s i. alike_bind im (Gives im I P env env') J (a env s) _ _ _ (ha.run env env' s i) (λ y y' s1 g.
-          alike_goes im J _ _ s1 (subst (λ z. J (with_vars ((x, y) ∷ []) env) (with_vars ((x', z) ∷ []) env') s1.memory) (sym g.0) (into env env' y s1.memory g.2 g.1)));
+          alike_goes im J _ _ s1 (subst (λ z. J (with_vars ((x, y) ∷ []) env) (with_vars ((x', z) ∷ []) env') s1.memory) (sym g.0)
+          (into env env' y s1.memory g.2 g.1)));
     }
 
     pub ran_leads : {P : Of Value} {a a' : Sem} → Does im I P a a' → Leads im I I (src.ran a) (src.ran a')
     ran_leads {P = P} {a = a} ha = record {
-      run = λ env env' s i. alike_bind im (Gives im I P env env') I (a env s) _ _ _ (ha.run env env' s i) (λ y y' s1 g. alike_goes im I env env' s1 g.2);
+      run = λ env env' s i. alike_bind im (Gives im I P env env') I (a env s) _ _ _ (ha.run env env' s i)
+          (λ y y' s1 g. alike_goes im I env env' s1 g.2);
     }
 
     pub no_steps_lead : Leads im I I (src.steps []) (src.steps [])
     no_steps_lead = record { run = λ env env' s i. alike_goes im I env env' s i }
 
-    pub more_steps_lead : {J K : Scopes} {item item' : src.Step} (items items' : List src.Step) → Leads im I J item item' → Leads im J K (src.steps items) (src.steps items')
+    pub more_steps_lead : {J K : Scopes} {item item' : src.Step} (items items' : List src.Step) → Leads im I J item item'
+        → Leads im J K (src.steps items) (src.steps items')
         → Leads im I K (src.steps (item ∷ items)) (src.steps (item' ∷ items'))
     more_steps_lead {J = J} {K = K} {item = item} items items' h hs = record {
       run = λ env env' s i. alike_bind im J K (item env s) _ _ _ (h.run env env' s i) (λ env1 env1' s1 j. hs.run env1 env1' s1 j);
     }
 
-    pub block_same : {J : Scopes} (items items' : List src.Step) {a a' : Sem} → Leads im I J (src.steps items) (src.steps items') → Same im J a a' → Same im I (src.block items a) (src.block items' a')
+    pub block_same : {J : Scopes} (items items' : List src.Step) {a a' : Sem} → Leads im I J (src.steps items) (src.steps items')
+        → Same im J a a' → Same im I (src.block items a) (src.block items' a')
     block_same {J = J} items items' hs ha = record {
-      run = λ env env' s i. alike_bind im J (IsImage im) (src.steps items env s) _ _ _ (hs.run env env' s i) (λ env1 env1' s1 j. ha.run env1 env1' s1 j);
+      run = λ env env' s i. alike_bind im J (IsImage im) (src.steps items env s) _ _ _ (hs.run env env' s i)
+          (λ env1 env1' s1 j. ha.run env1 env1' s1 j);
     }
 
     -- ---- frames
@@ -326,67 +405,86 @@ module _ (im : Images) where
         (a' (record env' { base = length s.memory }) (state_image im (src.push (map (closed_slot env) slots) s)))
 
     pub frame_same : (slots slots' : List Slot) (a a' : Sem)
-        → ((env env' : Env) (m : List Block) → I env env' m → map (closed_slot env') slots' ≡ map (slot_image im) (map (closed_slot env) slots)) → InFrame slots a a'
+        → ((env env' : Env) (m : List Block) → I env env' m → map (closed_slot env') slots'
+        ≡ map (slot_image im) (map (closed_slot env) slots)) → InFrame slots a a'
         → Same im I (src.frame slots a) (src.frame slots' a')
     frame_same slots slots' a a' types body = record {
       run = λ env env' s i.
-          let pushed : src.push (map (closed_slot env') slots') (state_image im s) ≡ state_image im (src.push (map (closed_slot env) slots) s) =
+          let pushed : src.push (map (closed_slot env') slots') (state_image im s)
+          ≡ state_image im (src.push (map (closed_slot env) slots) s) =
           ap (λ z. src.push z (state_image im s)) (types env env' s.memory i) ∙ is.push_image im (map (closed_slot env) slots) s in
           alike_to im (IsImage im) (src.frame slots a env s)
-          (ap (λ n. bind (a' (record env' { base = n }) (src.push (map (closed_slot env') slots') (state_image im s))) (λ x late. Goes x (src.pop n late))) (length-map s.memory (block_image im))
+          (ap (λ n. bind (a' (record env' { base = n }) (src.push (map (closed_slot env') slots') (state_image im s)))
+          (λ x late. Goes x (src.pop n late))) (length-map s.memory (block_image im))
           ∙ ap (λ z. bind (a' (record env' { base = length s.memory }) z) (λ x late. Goes x (src.pop (length s.memory) late))) pushed)
-          (alike_bind im (IsImage im) (IsImage im) (a (record env { base = length s.memory }) (src.push (map (closed_slot env) slots) s)) _ _ _ (body env env' s i) (λ x x' late e.
-          alike_to im (IsImage im) (Goes x (src.pop (length s.memory) late)) (ap (Goes x') (is.pop_image im (length s.memory) late)) (alike_goes im (IsImage im) x x' _ e)));
+          (alike_bind im (IsImage im) (IsImage im) (a (record env { base = length s.memory }) (src.push (map (closed_slot env) slots) s)) _
+          _ _ (body env env' s i) (λ x x' late e.
+          alike_to im (IsImage im) (Goes x (src.pop (length s.memory) late)) (ap (Goes x') (is.pop_image im (length s.memory) late))
+          (alike_goes im (IsImage im) x x' _ e)));
     }
 
     fill_turn_alike : (n len : ℕ) (x x' : Value) → x' ≡ im.value x → (j : ℕ) (s : SourceState)
-        → Alike im (BothTurned im (λ k k' m. k' ≡ k) (λ u u' m. Unit {0})) (src.fill_turn n len x j s) (src.fill_turn n len x' j (state_image im s))
+        → Alike im (BothTurned im (λ k k' m. k' ≡ k) (λ u u' m. Unit {0})) (src.fill_turn n len x j s)
+        (src.fill_turn n len x' j (state_image im s))
     fill_turn_alike n len x x' e j s =
         let T : Both (Turn ℕ (Unit {0})) (Turn ℕ (Unit {0})) = BothTurned im (λ k k' m. k' ≡ k) (λ u u' m. Unit {0}) in
         alike_if im T (nat_lt j len) _ (Goes (Over tt) (leave (event.Filled n) s)) _ _
         (alike_some im T (block_image im) Undefined (slice_get s.memory n) _ s _ _ (slice_get-map (block_image im) s.memory n) (λ b is_b.
         alike_to im T (Goes (Again (suc j)) (put n j x b (leave (event.Fill n j) s)))
-        (ap (λ z. Goes (Again (suc j)) (put n j z (block_image im b) (state_image im (leave (event.Fill n j) s)))) e ∙ ap (Goes (Again (suc j))) (is.put_image im n j x b (leave (event.Fill n j) s)))
+        (ap (λ z. Goes (Again (suc j)) (put n j z (block_image im b) (state_image im (leave (event.Fill n j) s)))) e
+        ∙ ap (Goes (Again (suc j))) (is.put_image im n j x b (leave (event.Fill n j) s)))
         (alike_goes im T _ _ (put n j x b (leave (event.Fill n j) s)) refl))) (alike_goes im T _ _ (leave (event.Filled n) s) tt)
 
-    pub fill_same : (k : ℕ) → ((env env' : Env) (m : List Block) → I env env' m → env'.base ≡ env.base) → {P : Of Value} {a a' : Sem} → Does im I P a a' → Same im I (src.fill k a) (src.fill k a')
+    pub fill_same : (k : ℕ) → ((env env' : Env) (m : List Block) → I env env' m → env'.base ≡ env.base) → {P : Of Value} {a a' : Sem}
+        → Does im I P a a' → Same im I (src.fill k a) (src.fill k a')
     fill_same k base {P = P} {a = a} {a' = a'} ha = record {
-      run = λ env env' s i. alike_to im (IsImage im) (src.fill k a env s) (ap (λ n. filled (n + k) (a' env' (state_image im s))) (base env env' s.memory i))
+      run = λ env env' s i. alike_to im (IsImage im) (src.fill k a env s) (ap (λ n. filled (n + k) (a' env' (state_image im s)))
+          (base env env' s.memory i))
           (alike_bind im (Gives im I P env env') (IsImage im) (a env s) _ _ _ (ha.run env env' s i) (λ x x' s1 g.
           let n : ℕ = env.base + k in
-          alike_some im (IsImage im) (block_image im) Undefined (slice_get s1.memory n) _ s1 _ _ (slice_get-map (block_image im) s1.memory n) (λ b is_b.
+          alike_some im (IsImage im) (block_image im) Undefined (slice_get s1.memory n) _ s1 _ _
+          (slice_get-map (block_image im) s1.memory n) (λ b is_b.
           alike_bind im (λ u u' m. Unit {0}) (IsImage im) (loop (src.fill_turn n b.len x) 0 (leave (event.Alloc n k) s1)) _ _ _
           (alike_loop im (λ j j' m. j' ≡ j) (λ u u' m. Unit {0}) (src.fill_turn n b.len x) (src.fill_turn n b.len x') (λ j j' s2 e.
-          alike_to im _ (src.fill_turn n b.len x j s2) (ap (λ z. src.fill_turn n b.len x' z (state_image im s2)) e) (fill_turn_alike n b.len x x' g.0 j s2)) 0 0 (leave (event.Alloc n k) s1) refl)
+          alike_to im _ (src.fill_turn n b.len x j s2) (ap (λ z. src.fill_turn n b.len x' z (state_image im s2)) e)
+          (fill_turn_alike n b.len x x' g.0 j s2)) 0 0 (leave (event.Alloc n k) s1) refl)
           (λ u u' s2 e. gives _ _ s2 (is.buf_value im n 0 b.len)))));
     }
       where
         filled : ℕ → SourceRan Value → SourceRan Value
-        filled n r = bind r (λ x s. with_some Undefined (slice_get s.memory n) s (λ b. bind (loop (src.fill_turn n b.len x) 0 (leave (event.Alloc n k) s)) (λ u s. Goes (v.Buf n 0 b.len) s)))
+        filled n r = bind r (λ x s. with_some Undefined (slice_get s.memory n) s
+            (λ b. bind (loop (src.fill_turn n b.len x) 0 (leave (event.Alloc n k) s)) (λ u s. Goes (v.Buf n 0 b.len) s)))
 
     -- ---- loops
 
     turn_on_alike : {X : Type 0} (R : Both X X) (b : Bool) (body body' : SourceState → SourceRan (Turn X Value)) (s : SourceState)
-        → (b ≡ true → Alike im (BothTurned im R (IsImage im)) (body (leave (event.Turn true) s)) (body' (state_image im (leave (event.Turn true) s))))
+        → (b ≡ true → Alike im (BothTurned im R (IsImage im)) (body (leave (event.Turn true) s))
+        (body' (state_image im (leave (event.Turn true) s))))
         → Alike im (BothTurned im R (IsImage im)) (src.turn_on b body s) (src.turn_on b body' (state_image im s))
     turn_on_alike R true body body' s k = k refl
-    turn_on_alike R false body body' s k = alike_goes im (BothTurned im R (IsImage im)) _ _ (leave (event.Turn false) s) (sym (is.unit_value im))
+    turn_on_alike R false body body' s k = alike_goes im (BothTurned im R (IsImage im)) _ _ (leave (event.Turn false) s)
+        (sym (is.unit_value im))
 
-    pub while_same : {P P' : Of Value} {c a c' a' : Sem} → Does im I P c c' → Does im I P' a a' → Same im I (src.while c a) (src.while c' a')
+    pub while_same : {P P' : Of Value} {c a c' a' : Sem} → Does im I P c c' → Does im I P' a a'
+        → Same im I (src.while c a) (src.while c' a')
     while_same {P = P} {P' = P'} {c = c} {a = a} {c' = c'} {a' = a'} hc ha = record {
       run = λ env env' s i.
           let R : Both (Unit {0}) (Unit {0}) = λ u u' m. I env env' m in
           alike_loop im R (IsImage im) (src.while_turn c a env) (src.while_turn c' a' env') (λ u u' s1 j.
-          alike_bind im (Gives im I P env env') (BothTurned im R (IsImage im)) (c env s1) _ _ _ (hc.run env env' s1 j) (λ x x' s2 g. truth_alike im (BothTurned im R (IsImage im)) x x' g.0 s2 _ _ (λ b.
-          turn_on_alike R b _ _ s2 (λ is_b. alike_bind im (Gives im I P' env env') (BothTurned im R (IsImage im)) (a env (leave (event.Turn true) s2)) _ _ _
-          (ha.run env env' (leave (event.Turn true) s2) g.2) (λ y y' s3 g'. alike_goes im (BothTurned im R (IsImage im)) _ _ s3 g'.2))))) tt tt s i;
+          alike_bind im (Gives im I P env env') (BothTurned im R (IsImage im)) (c env s1) _ _ _ (hc.run env env' s1 j)
+          (λ x x' s2 g. truth_alike im (BothTurned im R (IsImage im)) x x' g.0 s2 _ _ (λ b.
+          turn_on_alike R b _ _ s2 (λ is_b. alike_bind im (Gives im I P' env env') (BothTurned im R (IsImage im))
+          (a env (leave (event.Turn true) s2)) _ _ _
+          (ha.run env env' (leave (event.Turn true) s2) g.2) (λ y y' s3 g'. alike_goes im (BothTurned im R (IsImage im)) _ _ s3 g'.2))))) tt
+          tt s i;
     }
 
     -- A turn of a `for` does the same, and the scopes around the loop still stand to one another. The number is below one of
     -- which Ok holds: that the last value of the variable fits is known of the bound.
     abbrev pub InFor : (Ok : ℕ → Type 0) (x x' : List ℕ) (c c' : Sem) → Type 0
     InFor Ok x x' c c' = (env env' : Env) (s : SourceState) (j end : ℕ) → Ok end → nat_lt j end ≡ true → I env env' s.memory
-        → Alike im (λ y y' m. I env env' m) (c (with_vars ((x, v.Num W32 j) ∷ []) env) s) (c' (with_vars ((x', v.Num W32 j) ∷ []) env') (state_image im s))
+        → Alike im (λ y y' m. I env env' m) (c (with_vars ((x, v.Num W32 j) ∷ []) env) s) (c' (with_vars ((x', v.Num W32 j) ∷ []) env')
+        (state_image im s))
 
     pub for_same : (Ok : ℕ → Type 0) (x x' : List ℕ) {P P' : Of Value} {a b a' b' : Sem} (c c' : Sem)
         → ((y : Value) (m : List Block) (u : Width) (n : ℕ) → P' y m → out-Value y ≡ Value-F.Num u n → same_width W32 u ≡ true → Ok n)
@@ -395,29 +493,38 @@ module _ (im : Images) where
       run = λ env env' s i. operands_are (IsImage im) W32 W32 ha hb env env' s _ _ i (λ start end s1 y u i1 p is same.
           let R : Both ℕ ℕ = λ j j' m. (j' ≡ j) × I env env' m in
           alike_loop im R (IsImage im) (src.for_turn x end c env) (src.for_turn x' end c' env') (λ j j' s2 h.
-          alike_to im (BothTurned im R (IsImage im)) (src.for_turn x end c env j s2) (ap (λ z. src.for_turn x' end c' env' z (state_image im s2)) h.0)
+          alike_to im (BothTurned im R (IsImage im)) (src.for_turn x end c env j s2)
+          (ap (λ z. src.for_turn x' end c' env' z (state_image im s2)) h.0)
           (turn_on_alike R (nat_lt j end) _ _ s2 (λ lt. alike_bind im (λ y y' m. I env env' m) (BothTurned im R (IsImage im)) _ _ _ _
-          (hc env env' (leave (event.Turn true) s2) j end (ok y s1.memory u end p is same) lt h.1) (λ y y' s3 i3. alike_goes im (BothTurned im R (IsImage im)) (Again (suc j)) (Again (suc j)) s3 (refl, i3))))) start start s1 (refl, i1));
+          (hc env env' (leave (event.Turn true) s2) j end (ok y s1.memory u end p is same) lt h.1)
+          (λ y y' s3 i3. alike_goes im (BothTurned im R (IsImage im)) (Again (suc j)) (Again (suc j)) s3 (refl, i3))))) start start s1
+          (refl, i1));
     }
 
     -- ---- calls
 
-    pub call_same : (calls calls' : src.Calls) (f f' : List ℕ) (args args' : List Ty) {P : Of (List Value)} {es es' : List Sem} → DoAll im I P es es'
+    pub call_same : (calls calls' : src.Calls) (f f' : List ℕ) (args args' : List Ty) {P : Of (List Value)} {es es' : List Sem}
+        → DoAll im I P es es'
         → ((env env' : Env) (xs : List Value) (s : SourceState) → I env env' s.memory → P xs s.memory
         → Alike im (IsImage im) (calls (record { name = f; types = map (closed env) args; values = xs }) s)
         (calls' (record { name = f'; types = map (closed env') args'; values = map im.value xs }) (state_image im s)))
         → Same im I (src.call calls f args es) (src.call calls' f' args' es')
     call_same calls calls' f f' args args' {P = P} {es = es} hs k = record {
-      run = λ env env' s i. alike_bind im (GivesAll im I P env env') (IsImage im) (src.values es env s) _ _ _ (hs.run env env' s i) (λ xs xs' s1 g.
-          alike_tick im (IsImage im) s1 _ _ (λ n. alike_to im (IsImage im) (calls (record { name = f; types = map (closed env) args; values = xs }) (record s1 { ticks = n }))
-          (ap (λ z. calls' (record { name = f'; types = map (closed env') args'; values = z }) (state_image im (record s1 { ticks = n }))) g.0) (k env env' xs (record s1 { ticks = n }) g.2 g.1)));
+      run = λ env env' s i. alike_bind im (GivesAll im I P env env') (IsImage im) (src.values es env s) _ _ _ (hs.run env env' s i)
+          (λ xs xs' s1 g.
+          alike_tick im (IsImage im) s1 _ _ (λ n. alike_to im (IsImage im)
+          (calls (record { name = f; types = map (closed env) args; values = xs }) (record s1 { ticks = n }))
+          (ap (λ z. calls' (record { name = f'; types = map (closed env') args'; values = z }) (state_image im (record s1 { ticks = n })))
+          g.0) (k env env' xs (record s1 { ticks = n }) g.2 g.1)));
     }
 
     -- ---- what the passes bring
 
-    all_true_alike : (xs xs' : List Value) → xs' ≡ map im.value xs → (s : SourceState) (next next' : Bool → SourceRan Value) → ((b : Bool) → Alike im (IsImage im) (next b) (next' b))
+    all_true_alike : (xs xs' : List Value) → xs' ≡ map im.value xs → (s : SourceState) (next next' : Bool → SourceRan Value)
+        → ((b : Bool) → Alike im (IsImage im) (next b) (next' b))
         → Alike im (IsImage im) (src.all_true xs s next) (src.all_true xs' (state_image im s) next')
-    all_true_alike xs xs' e s next next' k = alike_to im (IsImage im) (src.all_true xs s next) (ap (λ z. src.all_true z (state_image im s) next') e) (go xs next next' k)
+    all_true_alike xs xs' e s next next' k = alike_to im (IsImage im) (src.all_true xs s next)
+        (ap (λ z. src.all_true z (state_image im s) next') e) (go xs next next' k)
       where
         go : (xs : List Value) (next next' : Bool → SourceRan Value) → ((b : Bool) → Alike im (IsImage im) (next b) (next' b))
             → Alike im (IsImage im) (src.all_true xs s next) (src.all_true (map im.value xs) (state_image im s) next')
@@ -434,7 +541,8 @@ module _ (im : Images) where
     cases_alike k cs cs' Each.none env env' s i = alike_ends im (IsImage im) (Stuck cause.Match) s
     cases_alike k cs cs' (Each.one {x = c} {xs = more} {ys = more'} h hs) env env' s i =
         alike_bind im (GivesAll im I any env env') (IsImage im) (src.values c.tests env s) _ _ _ (h.tests.run env env' s i) (λ xs xs' s1 g.
-        all_true_alike xs xs' g.0 s1 _ _ (λ b. alike_if im (IsImage im) b _ _ _ _ (h.body.run env env' (leave (event.Pick k) s1) g.2) (cases_alike (suc k) more more' hs env env' s1 g.2)))
+        all_true_alike xs xs' g.0 s1 _ _ (λ b. alike_if im (IsImage im) b _ _ _ _ (h.body.run env env' (leave (event.Pick k) s1) g.2)
+        (cases_alike (suc k) more more' hs env env' s1 g.2)))
 
     pub cases_same : (k : ℕ) {cs cs' : List src.Tested} → Each SameTested cs cs' → Same im I (src.cases k cs) (src.cases k cs')
     cases_same k {cs = cs} {cs' = cs'} hs = record { run = cases_alike k cs cs' hs }

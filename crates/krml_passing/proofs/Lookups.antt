@@ -46,9 +46,11 @@ module _ (n : Naming) where
   var_ty x = ty_is (t.Var x) ∙ ap (λ o. roll-Ty (ty_under n.ty n.named o)) (t.outs-Var x) ∙ t.rolls-Var x
 
   named_ty : (x : List ℕ) (args : List Ty) → n.ty (t.Named x args) ≡ t.Named (n.named x) (map n.ty args)
-  named_ty x args = ty_is (t.Named x args) ∙ ap (λ o. roll-Ty (ty_under n.ty n.named o)) (t.outs-Named x args) ∙ t.rolls-Named (n.named x) (map n.ty args)
+  named_ty x args = ty_is (t.Named x args) ∙ ap (λ o. roll-Ty (ty_under n.ty n.named o)) (t.outs-Named x args)
+      ∙ t.rolls-Named (n.named x) (map n.ty args)
 
-  argument_under : (vars : List (List ℕ)) (args : List Ty) (x : List ℕ) → argument_of vars (map n.ty args) x ≡ n.ty (argument_of vars args x)
+  argument_under : (vars : List (List ℕ)) (args : List Ty) (x : List ℕ) → argument_of vars (map n.ty args) x
+      ≡ n.ty (argument_of vars args x)
   argument_under [] args x = sym (var_ty x)
   argument_under (y ∷ vars) [] x = sym (var_ty x)
   argument_under (y ∷ vars) (a ∷ args) x = rw (argument_under vars args x) (go (bytes_eq y x))
@@ -62,7 +64,8 @@ module _ (n : Naming) where
     UnderAt a = type_at vars (map n.ty args) (n.ty a) ≡ n.ty (type_at vars args a)
 
     module _ (X : Type 0) (w : X → Ty) (h : (x : X) → UnderAt (w x)) where
-      all_under_at : (xs : List X) → map (type_at vars (map n.ty args)) (map n.ty (map w xs)) ≡ map n.ty (map (type_at vars args) (map w xs))
+      all_under_at : (xs : List X) → map (type_at vars (map n.ty args)) (map n.ty (map w xs))
+          ≡ map n.ty (map (type_at vars args) (map w xs))
       all_under_at [] = refl
       all_under_at (x ∷ xs) = ap (λ z. z ∷ map (type_at vars (map n.ty args)) (map n.ty (map w xs))) (h x)
           ∙ ap (λ z. n.ty (type_at vars args (w x)) ∷ z) (all_under_at xs)
@@ -73,7 +76,8 @@ module _ (n : Naming) where
       step_under_at (Ty-F.Int i) = rw (t.rolls-Int i) (rw (at_int vars args i, int_ty i, at_int vars (map n.ty args) i) refl)
       step_under_at (Ty-F.Buf x) = rw (t.rolls-Buf (w x))
           (rw (at_buf vars args (w x), buf_ty (type_at vars args (w x)), buf_ty (w x), at_buf vars (map n.ty args) (n.ty (w x)), h x) refl)
-      step_under_at (Ty-F.Var x) = rw (t.rolls-Var x) (rw (at_var vars args x, var_ty x, at_var vars (map n.ty args) x) (argument_under vars args x))
+      step_under_at (Ty-F.Var x) = rw (t.rolls-Var x) (rw (at_var vars args x, var_ty x, at_var vars (map n.ty args) x)
+          (argument_under vars args x))
       step_under_at (Ty-F.Named x xs) = rw (t.rolls-Named x (map w xs)) (rw (
         at_named vars args x (map w xs),
         named_ty x (map (type_at vars args) (map w xs)),
@@ -98,15 +102,20 @@ module _ (n : Naming) where
   abbrev pub place_under : ℕ × List Ty → ℕ × List Ty
   place_under p = (p.0, map n.ty p.1)
 
-  place_in_under : (cons : List Con) (k : ℕ) (x : List ℕ) → src.place_in (map (con_under n) cons) k (n.con x) ≡ option_map place_under (src.place_in cons k x)
+  place_in_under : (cons : List Con) (k : ℕ) (x : List ℕ) → src.place_in (map (con_under n) cons) k (n.con x)
+      ≡ option_map place_under (src.place_in cons k x)
   place_in_under [] k x = refl
-  place_in_under (c ∷ cons) k x = rw (n.con_apart c.name x) (first_image place_under (bytes_eq c.name x) (k, c.args) _ _ (place_in_under cons (suc k) x))
+  place_in_under (c ∷ cons) k x = rw (n.con_apart c.name x) (first_image place_under (bytes_eq c.name x) (
+    k,
+    c.args,
+  ) _ _ (place_in_under cons (suc k) x))
 
   module _ (body : Expr → Expr) where
     abbrev pub to : List Def → List Def
     to defs = map (def_under n body) defs
 
-    pub type_named_under : (defs : List Def) (x : List ℕ) → type_named (to defs) (n.named x) ≡ option_map composite_under (type_named defs x)
+    pub type_named_under : (defs : List Def) (x : List ℕ) → type_named (to defs) (n.named x)
+        ≡ option_map composite_under (type_named defs x)
     type_named_under [] x = refl
     type_named_under (d.Struct name vars fields ∷ defs) x =
         rw (n.named_apart name x) (first_image composite_under (bytes_eq name x) (Struct vars fields) _ _ (type_named_under defs x))
@@ -114,7 +123,8 @@ module _ (n : Naming) where
         rw (n.named_apart name x) (first_image composite_under (bytes_eq name x) (Sum vars cons) _ _ (type_named_under defs x))
     type_named_under (_ ∷ defs) x = type_named_under defs x
 
-    pub fields_of_under : (defs : List Def) (x : List ℕ) → src.fields_of (type_named (to defs) (n.named x)) ≡ option_map (map n.field) (src.fields_of (type_named defs x))
+    pub fields_of_under : (defs : List Def) (x : List ℕ) → src.fields_of (type_named (to defs) (n.named x))
+        ≡ option_map (map n.field) (src.fields_of (type_named defs x))
     fields_of_under defs x = ap src.fields_of (type_named_under defs x) ∙ go (type_named defs x)
       where
         go : (o : Option Composite) → src.fields_of (option_map composite_under o) ≡ option_map (map n.field) (src.fields_of o)
@@ -139,10 +149,12 @@ module _ (n : Naming) where
     table_from_under k (d.Table name i nums ∷ defs) x = rw (n.table_apart name x, table_from_under (suc k) defs x) refl
     table_from_under k (_ ∷ defs) x = table_from_under (suc k) defs x
 
-    pub function_named_under : (defs : List Def) (x : List ℕ) → src.function_named (to defs) (n.fun x) ≡ option_map (function_under n body) (src.function_named defs x)
+    pub function_named_under : (defs : List Def) (x : List ℕ) → src.function_named (to defs) (n.fun x)
+        ≡ option_map (function_under n body) (src.function_named defs x)
     function_named_under [] x = refl
     function_named_under (d.Fun name vars params result e ∷ defs) x = rw (n.fun_apart name x)
-        (first_image (function_under n body) (bytes_eq name x) (record { tvars = vars; params = params; body = e }) _ _ (function_named_under defs x))
+        (first_image (function_under n body) (bytes_eq name x) (record { tvars = vars; params = params; body = e }) _ _
+        (function_named_under defs x))
     function_named_under (_ ∷ defs) x = function_named_under defs x
 
     pub has_entry_under : (defs : List Def) (x : List ℕ) → src.has_entry (to defs) (n.fun x) ≡ src.has_entry defs x
@@ -159,7 +171,8 @@ module _ (n : Naming) where
   all_some_under [] = refl
   all_some_under (o ∷ os) = rw (all_some_under os) (go o (src.all_some os))
     where
-      go : (o : Option Value) (more : Option (List Value)) → option_and_then (λ a. option_map (λ xs. a ∷ xs) (option_map (map n.value) more)) (option_map n.value o)
+      go : (o : Option Value) (more : Option (List Value))
+          → option_and_then (λ a. option_map (λ xs. a ∷ xs) (option_map (map n.value) more)) (option_map n.value o)
           ≡ option_map (map n.value) (option_and_then (λ a. option_map (λ xs. a ∷ xs) more) o)
       go None more = refl
       go (Some a) None = refl
@@ -180,7 +193,8 @@ module _ (n : Naming) where
       zero_args [] = refl
       zero_args (a ∷ types) = rw (zero_at a, zero_args types) refl
 
-    zero_of_under : (args : List Ty) (o : Option Composite) → src.zero_of zeros' (map n.ty args) (option_map composite_under o) ≡ option_map n.value (src.zero_of zeros args o)
+    zero_of_under : (args : List Ty) (o : Option Composite) → src.zero_of zeros' (map n.ty args) (option_map composite_under o)
+        ≡ option_map n.value (src.zero_of zeros args o)
     zero_of_under args (Some (Struct vars fields)) =
         rw (names_under fields, zero_fields vars args fields, all_some_under (map (λ f. zeros (type_at vars args f.ty)) fields))
         (go (src.all_some (map (λ f. zeros (type_at vars args f.ty)) fields)))
@@ -191,9 +205,11 @@ module _ (n : Naming) where
         go None = refl
     zero_of_under args (Some (Sum vars [])) = refl
     zero_of_under args (Some (Sum vars (c ∷ cons))) =
-        rw (zero_args vars args c.args, all_some_under (map (λ a. zeros (type_at vars args a)) c.args)) (go (src.all_some (map (λ a. zeros (type_at vars args a)) c.args)))
+        rw (zero_args vars args c.args, all_some_under (map (λ a. zeros (type_at vars args a)) c.args))
+        (go (src.all_some (map (λ a. zeros (type_at vars args a)) c.args)))
       where
-        go : (o : Option (List Value)) → option_map (λ xs. v.Con 0 xs) (option_map (map n.value) o) ≡ option_map n.value (option_map (λ xs. v.Con 0 xs) o)
+        go : (o : Option (List Value)) → option_map (λ xs. v.Con 0 xs) (option_map (map n.value) o)
+            ≡ option_map n.value (option_map (λ xs. v.Con 0 xs) o)
         go (Some xs) = ap Some (sym (is.con_value im 0 xs))
         go None = refl
     zero_of_under args None = refl
@@ -201,16 +217,20 @@ module _ (n : Naming) where
   module _ (body : Expr → Expr) (defs : List Def) where
     zero_within_under : (k : ℕ) (a : Ty) → src.zero_within k (to body defs) (n.ty a) ≡ option_map n.value (src.zero_within k defs a)
     zero_within_under zero a = refl
-    zero_within_under (suc k) a = ap (src.zero_in (src.zero_within k (to body defs)) (to body defs)) (n.out_ty a) ∙ go (zero_within_under k) (out-Ty a)
+    zero_within_under (suc k) a = ap (src.zero_in (src.zero_within k (to body defs)) (to body defs)) (n.out_ty a)
+        ∙ go (zero_within_under k) (out-Ty a)
       where
         go : ((a : Ty) → src.zero_within k (to body defs) (n.ty a) ≡ option_map n.value (src.zero_within k defs a)) → (o : Ty-F Ty)
-            → src.zero_in (src.zero_within k (to body defs)) (to body defs) (ty_under n.ty n.named o) ≡ option_map n.value (src.zero_in (src.zero_within k defs) defs o)
+            → src.zero_in (src.zero_within k (to body defs)) (to body defs) (ty_under n.ty n.named o)
+            ≡ option_map n.value (src.zero_in (src.zero_within k defs) defs o)
         go h Ty-F.Bool = ap Some (sym (is.bool_value im false))
         go h Ty-F.Unit = ap Some (sym (is.unit_value im))
         go h (Ty-F.Int i) = ap Some (sym (is.num_value im i.width 0))
         go h (Ty-F.Buf a) = refl
         go h (Ty-F.Var x) = refl
-        go h (Ty-F.Named x args) = rw (type_named_under body defs x) (zero_of_under (src.zero_within k defs) (src.zero_within k (to body defs)) h args (type_named defs x))
+        go h (Ty-F.Named x args) = rw (type_named_under body defs x) (zero_of_under (src.zero_within k defs)
+            (src.zero_within k (to body defs)) h args (type_named defs x))
 
     pub zero_value_under : (a : Ty) → src.zero_value (to body defs) (n.ty a) ≡ option_map n.value (src.zero_value defs a)
-    zero_value_under a = ap (λ k. src.zero_within (suc k) (to body defs) (n.ty a)) (length-map defs (def_under n body)) ∙ zero_within_under (suc (length defs)) a
+    zero_value_under a = ap (λ k. src.zero_within (suc k) (to body defs) (n.ty a)) (length-map defs (def_under n body))
+        ∙ zero_within_under (suc (length defs)) a

@@ -63,7 +63,8 @@ module _ (n : Naming) where
     base = λ env env' m k i. ap (λ (z : Env). record z { base = k }) i;
     look = λ env env' m x i. ap (λ (z : Env). value_of z.vars x) i ∙ value_of_image env.vars x;
     at_base = λ env env' m i. ap (λ (z : Env). z.base) i;
-    slot = λ env env' m s i. ap (λ z. closed_slot z (slot_renamed (renaming_of n) s)) i ∙ ap (λ z. record { ty = z; len = s.len }) (ty_at n env.tvars env.targs s.ty);
+    slot = λ env env' m s i. ap (λ z. closed_slot z (slot_renamed (renaming_of n) s)) i
+        ∙ ap (λ z. record { ty = z; len = s.len }) (ty_at n env.tvars env.targs s.ty);
   }
 
   -- ---- calls
@@ -78,13 +79,14 @@ module _ (n : Naming) where
   -- ---- names of a layer
 
   module _ (body : Expr → Expr) (defs : List Def) (calls calls' : src.Calls) (k : CallsUnder calls calls') where
-    abbrev con_kept : (x : List ℕ) → SameCon im (under_names n) defs (to n body defs) x (n.con x)
+    abbrev con_kept : (x : List ℕ) → SameCon defs (to n body defs) x (n.con x)
     con_kept x = record { to = place_under n; is = con_place_under n body defs x; place = λ p. refl }
 
-    zero_kept : (x : List ℕ) (j : ℕ) → SameZero im (under_names n) defs (to n body defs) x (n.con x) (con_kept x) j
+    zero_kept : (x : List ℕ) (j : ℕ) → SameZero im defs (to n body defs) x (n.con x) (con_kept x) j
     zero_kept x j p e = ap (option_and_then (src.zero_value (to n body defs))) (slice_get-map n.ty p.1 j) ∙ go (slice_get p.1 j)
       where
-        go : (o : Option Ty) → option_and_then (src.zero_value (to n body defs)) (option_map n.ty o) ≡ option_map n.value (option_and_then (src.zero_value defs) o)
+        go : (o : Option Ty) → option_and_then (src.zero_value (to n body defs)) (option_map n.ty o)
+            ≡ option_map n.value (option_and_then (src.zero_value defs) o)
         go (Some a) = zero_value_under n body defs a
         go None = refl
 
@@ -94,7 +96,8 @@ module _ (n : Naming) where
     names_under (Expr-F.Con x args es) = con_kept x
     names_under (Expr-F.Tab x a) = table_from_under n body 0 defs x ∙ itself (src.table_from 0 defs x)
     names_under (Expr-F.Call f args es) = λ env env' xs s i. k (record { name = f; types = map (closed env) args; values = xs }) _ s
-        (ap (λ z. record { name = n.fun f; types = z; values = map n.value xs }) (ap (λ z. map (closed z) (map n.ty args)) i ∙ closed_image env args))
+        (ap (λ z. record { name = n.fun f; types = z; values = map n.value xs }) (ap (λ z. map (closed z) (map n.ty args)) i
+        ∙ closed_image env args))
     names_under (Expr-F.TagIs x a) = con_kept x
     names_under (Expr-F.Part x j a) = (con_kept x, zero_kept x j)
     names_under _ = tt
@@ -107,7 +110,8 @@ module _ (n : Naming) where
   fits_under_ty : FitsAlike im (λ i. int_ty n i) n.ty
   fits_under_ty x a b = ap (src.passing x a) (n.out_ty b) ∙ go x a (out-Ty b)
     where
-      buffer : (x : List ℕ) (w : Width) (nums : List ℕ) (o : Ty-F Ty) → src.buffer_for x w nums (ty_under n.ty n.named o) ≡ src.buffer_for x w nums o
+      buffer : (x : List ℕ) (w : Width) (nums : List ℕ) (o : Ty-F Ty) → src.buffer_for x w nums (ty_under n.ty n.named o)
+          ≡ src.buffer_for x w nums o
       buffer x w nums (Ty-F.Int i) = refl
       buffer x w nums _ = refl
 
@@ -122,7 +126,8 @@ module _ (n : Naming) where
   -- ---- files
 
   params_under : (params : List Field) (xs : List Value) (vars : Variables)
-      → src.params_over (map (param_under n) params) (map n.value xs) (vars_image im vars) ≡ option_map (vars_image im) (src.params_over params xs vars)
+      → src.params_over (map (param_under n) params) (map n.value xs) (vars_image im vars)
+      ≡ option_map (vars_image im) (src.params_over params xs vars)
   params_under [] [] vars = refl
   params_under [] (x ∷ xs) vars = refl
   params_under (p ∷ params) [] vars = refl
@@ -134,22 +139,30 @@ module _ (n : Naming) where
     BodiesSame defs = (calls calls' : src.Calls) → CallsUnder calls calls' → (x : Expr)
         → Same im (under_names n) (src.eval defs calls x) (src.eval (to n body defs) calls' (body x))
 
-    body_under : (defs : List Def) → BodiesSame defs → (calls calls' : src.Calls) → CallsUnder calls calls' → CallsUnder (src.body_of defs calls) (src.body_of (to n body defs) calls')
-    body_under defs same calls calls' k c c' s e = alike_to im (IsImage im) (src.body_of defs calls c s) (ap (λ z. src.body_of (to n body defs) calls' z (state_image im s)) e)
-        (alike_some im (IsImage im) (function_under n body) Undefined (src.function_named defs c.name) _ s _ _ (function_named_under n body defs c.name) (λ f is_f.
-        alike_some im (IsImage im) (vars_image im) Undefined (src.params_over f.params c.values []) _ s _ _ (params_under f.params c.values []) (λ vars is_vars.
+    body_under : (defs : List Def) → BodiesSame defs → (calls calls' : src.Calls) → CallsUnder calls calls'
+        → CallsUnder (src.body_of defs calls) (src.body_of (to n body defs) calls')
+    body_under defs same calls calls' k c c' s e = alike_to im (IsImage im) (src.body_of defs calls c s)
+        (ap (λ z. src.body_of (to n body defs) calls' z (state_image im s)) e)
+        (alike_some im (IsImage im) (function_under n body) Undefined (src.function_named defs c.name) _ s _ _
+        (function_named_under n body defs c.name) (λ f is_f.
+        alike_some im (IsImage im) (vars_image im) Undefined (src.params_over f.params c.values []) _ s _ _
+        (params_under f.params c.values []) (λ vars is_vars.
         (same calls calls' k f.body).run (src.env_of f c.types vars) _ s refl)))
 
     pub starts_under : (file : SourceFile) (entry : List ℕ) (args : List Arg)
-        → src.start (file_under n body file) (n.fun entry) args ≡ option_map (start_image im (function_under n body)) (src.start file entry args)
-    starts_under file = starts_alike im (λ i. int_ty n i) n.ty fits_under_ty (function_under n body) (λ f. refl) file (file_under n body file) n.fun
+        → src.start (file_under n body file) (n.fun entry) args
+        ≡ option_map (start_image im (function_under n body)) (src.start file entry args)
+    starts_under file = starts_alike im (λ i. int_ty n i) n.ty fits_under_ty (function_under n body) (λ f. refl) file
+        (file_under n body file) n.fun
         (has_entry_under n body file.defs) (λ x e. function_named_under n body file.defs x)
 
     -- Each run under the new names is the run under the old ones.
     pub runs_under : (file : SourceFile) → BodiesSame file.defs → RunsAs n.fun (event_image im) file (file_under n body file)
-    runs_under file same = runs_as im (λ w. refl) file (file_under n body file) n.fun (function_under n body) (starts_under file) (λ entry args bound b is_b.
+    runs_under file same = runs_as im (λ w. refl) file (file_under n body file) n.fun (function_under n body) (starts_under file)
+        (λ entry args bound b is_b.
         (same (src.enter file.defs bound.depth) (src.enter (to n body file.defs) bound.depth)
-        (enter_alike im (λ w. refl) (λ c c' m. c' ≡ called_under c) file.defs (to n body file.defs) (body_under file.defs same) bound.depth) b.function.body).run
+        (enter_alike im (λ w. refl) (λ c c' m. c' ≡ called_under c) file.defs (to n body file.defs) (body_under file.defs same) bound.depth)
+        b.function.body).run
         (src.env_of b.function [] b.passed.given) _ _ refl)
 
     pub fits_under : (file : SourceFile) → FitsAs n.fun file (file_under n body file)
@@ -157,6 +170,7 @@ module _ (n : Naming) where
 
   -- A renaming that tells names apart keeps runs.
   pub runs_renamed : (file : SourceFile) → RunsAs n.fun (event_image im) file (file_renamed n file)
-  runs_renamed file = runs_under (expr_renamed (renaming_of n)) file (λ calls calls' k x. (renamed_same im (renaming_of n) (under_names n) scopes_under (λ y. refl) file.defs
+  runs_renamed file = runs_under (expr_renamed (renaming_of n)) file
+      (λ calls calls' k x. (renamed_same im (renaming_of n) (under_names n) scopes_under (λ y. refl) file.defs
       (to n (expr_renamed (renaming_of n)) file.defs) calls calls' (names_under (expr_renamed (renaming_of n)) file.defs calls calls' k)
       (pats_under (expr_renamed (renaming_of n)) file.defs calls calls' k) x).from 0)

@@ -8,7 +8,8 @@ use Rattle.krml_passing.specs.Alike.{SameOf}
 
 module _ (slot : Slot → Slot) where
   -- both sides by what they are equal to
-  pub moved : {A B : Type 0} (R : A → B → Type 0) {m n : Numbered A} {m' n' : Numbered B} → m ≡ n → m' ≡ n' → SameOf slot R n n' → SameOf slot R m m'
+  pub moved : {A B : Type 0} (R : A → B → Type 0) {m n : Numbered A} {m' n' : Numbered B} → m ≡ n → m' ≡ n' → SameOf slot R n n'
+      → SameOf slot R m m'
   moved R {m = m} {n = n} {m' = m'} {n' = n'} e e' h = subst (λ z. SameOf slot R z m') (sym e) (subst (SameOf slot R n) (sym e') h)
 
   as_many : {A B : Type 0} {R : A → B → Type 0} (n : Numbered A) (n' : Numbered B) → SameOf slot R n n' → length n'.slots ≡ length n.slots
@@ -18,7 +19,8 @@ module _ (slot : Slot → Slot) where
   none_of R h = record { slots = refl; from = λ k. h }
 
   module _ {A A' B B' : Type 0} where
-    pub one_of : {R : A → A' → Type 0} (Q : B → B' → Type 0) {f : A → B} {f' : A' → B'} {n : Numbered A} {n' : Numbered A'} → SameOf slot R n n'
+    pub one_of : {R : A → A' → Type 0} (Q : B → B' → Type 0) {f : A → B} {f' : A' → B'} {n : Numbered A} {n' : Numbered A'}
+        → SameOf slot R n n'
         → ((a : A) (a' : A') → R a a' → Q (f a) (f' a')) → SameOf slot Q (one f n) (one f' n')
     one_of Q h step = record { slots = h.slots; from = λ k. step _ _ (h.from k) }
 
@@ -38,7 +40,8 @@ module _ (slot : Slot → Slot) where
       → ((a : A) (b : B) (c : C) (a' : A') (b' : B') (c' : C') → R a a' → S b b' → T c c' → Q (f a b c) (f' a' b' c'))
       → SameOf slot Q (three f n o p) (three f' n' o' p')
   three_of {C = C} {C' = C'} {T = T} Q {f = f} {f' = f'} hn ho hp step = two_of Q {f = λ g x. g x} {f' = λ g x. g x}
-      (two_of (λ g g'. (c : C) (c' : C') → T c c' → Q (g c) (g' c')) {f = f} {f' = f'} hn ho (λ a b a' b' r s c c' t. step a b c a' b' c' r s t)) hp
+      (two_of (λ g g'. (c : C) (c' : C') → T c c' → Q (g c) (g' c')) {f = f} {f' = f'} hn ho
+      (λ a b a' b' r s c c' t. step a b c a' b' c' r s t)) hp
       (λ g c g' c' h t. h c c' t)
 
   module _ {A A' : Type 0} {R : A → A' → Type 0} where
@@ -48,17 +51,21 @@ module _ (slot : Slot → Slot) where
     all_slots ns ns' (Each.one {x = n} {xs = more} {ys = more'} h hs) =
         rw (h.slots, all_slots more more' hs) (sym (map-append slot n.slots (flat_map (λ n. n.slots) more)))
 
-    each_same : (ns : List (Numbered A)) (ns' : List (Numbered A')) → Each (SameOf slot R) ns ns' → (k : ℕ) → Each R (each_from ns k) (each_from ns' k)
+    each_same : (ns : List (Numbered A)) (ns' : List (Numbered A')) → Each (SameOf slot R) ns ns' → (k : ℕ)
+        → Each R (each_from ns k) (each_from ns' k)
     each_same ns ns' Each.none k = Each.none
     each_same ns ns' (Each.one {x = n} {y = n'} {xs = more} {ys = more'} h hs) k = Each.one (h.from k)
         (subst (λ l. Each R (each_from more (k + length n.slots)) (each_from more' (k + l))) (sym (as_many n n' h))
         (each_same more more' hs (k + length n.slots)))
 
-    pub many_of : {B B' : Type 0} (Q : B → B' → Type 0) {f : List A → B} {f' : List A' → B'} {ns : List (Numbered A)} {ns' : List (Numbered A')}
-        → Each (SameOf slot R) ns ns' → ((xs : List A) (xs' : List A') → Each R xs xs' → Q (f xs) (f' xs')) → SameOf slot Q (many f ns) (many f' ns')
+    pub many_of : {B B' : Type 0} (Q : B → B' → Type 0) {f : List A → B} {f' : List A'
+        → B'} {ns : List (Numbered A)} {ns' : List (Numbered A')}
+        → Each (SameOf slot R) ns ns' → ((xs : List A) (xs' : List A') → Each R xs xs' → Q (f xs) (f' xs'))
+        → SameOf slot Q (many f ns) (many f' ns')
     many_of Q {ns = ns} {ns' = ns'} hs step = record { slots = all_slots ns ns' hs; from = λ k. step _ _ (each_same ns ns' hs k) }
 
 -- related part by part
-pub each_map : {X A B : Type 0} (R : A → B → Type 0) (f : X → A) (g : X → B) → ((x : X) → R (f x) (g x)) → (xs : List X) → Each R (map f xs) (map g xs)
+pub each_map : {X A B : Type 0} (R : A → B → Type 0) (f : X → A) (g : X → B) → ((x : X) → R (f x) (g x)) → (xs : List X)
+    → Each R (map f xs) (map g xs)
 each_map R f g h [] = Each.none
 each_map R f g h (x ∷ xs) = Each.one (h x) (each_map R f g h xs)

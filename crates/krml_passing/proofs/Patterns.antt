@@ -27,13 +27,16 @@ module _ (n : Naming) where
   pub record SameTaking (f f' : src.Taking) : Type 0 where
     pub run : (x : Value) → f' (n.value x) ≡ option_map vars_under (f x)
 
-  take_all_under : (fs fs' : List src.Taking) → Each SameTaking fs fs' → (xs : List Value) → src.take_all fs' (map n.value xs) ≡ option_map vars_under (src.take_all fs xs)
+  take_all_under : (fs fs' : List src.Taking) → Each SameTaking fs fs' → (xs : List Value) → src.take_all fs' (map n.value xs)
+      ≡ option_map vars_under (src.take_all fs xs)
   take_all_under fs fs' Each.none [] = refl
   take_all_under fs fs' Each.none (x ∷ xs) = refl
   take_all_under fs fs' (Each.one h hs) [] = refl
-  take_all_under fs fs' (Each.one {x = f} {xs = more} {ys = more'} h hs) (x ∷ xs) = rw (h.run x, take_all_under more more' hs xs) (go (f x) (src.take_all more xs))
+  take_all_under fs fs' (Each.one {x = f} {xs = more} {ys = more'} h hs) (x ∷ xs) = rw (h.run x, take_all_under more more' hs xs)
+      (go (f x) (src.take_all more xs))
     where
-      go : (o later : Option Variables) → option_and_then (λ vars. option_map (λ rest. rest ++ vars) (option_map vars_under later)) (option_map vars_under o)
+      go : (o later : Option Variables) → option_and_then (λ vars. option_map (λ rest. rest ++ vars) (option_map vars_under later))
+          (option_map vars_under o)
           ≡ option_map vars_under (option_and_then (λ vars. option_map (λ rest. rest ++ vars) later) o)
       go None later = refl
       go (Some vars) None = refl
@@ -46,9 +49,11 @@ module _ (n : Naming) where
   module _ (body : Expr → Expr) (defs : List Def) where
     -- what one layer of a pattern takes, by the shape of the value
     abbrev TakesLayer : Pat-F src.Taking → Pat-F src.Taking → Type 0
-    TakesLayer q q' = (o : Value-F Value) → src.taking (to n body defs) q' (value_under n.value n.field o) ≡ option_map vars_under (src.taking defs q o)
+    TakesLayer q q' = (o : Value-F Value) → src.taking (to n body defs) q' (value_under n.value n.field o)
+        ≡ option_map vars_under (src.taking defs q o)
 
-    by_shape : (q q' : Pat-F src.Taking) → TakesLayer q q' → (x : Value) → src.taking (to n body defs) q' (out-Value (n.value x)) ≡ option_map vars_under (src.taking defs q (out-Value x))
+    by_shape : (q q' : Pat-F src.Taking) → TakesLayer q q' → (x : Value) → src.taking (to n body defs) q' (out-Value (n.value x))
+        ≡ option_map vars_under (src.taking defs q (out-Value x))
     by_shape q q' k x = ap (src.taking (to n body defs) q') (n.out_value x) ∙ k (out-Value x)
 
     bool_taking : (b : Bool) → TakesLayer (Pat-F.Bool b) (Pat-F.Bool b)
@@ -62,17 +67,20 @@ module _ (n : Naming) where
     con_taking : (x : List ℕ) (fs fs' : List src.Taking) → Each SameTaking fs fs' → TakesLayer (Pat-F.Con x fs) (Pat-F.Con (n.con x) fs')
     con_taking x fs fs' hs (Value-F.Con k xs) = rw (con_place_under n body defs x) (go (src.con_place defs x))
       where
-        at : (b : Bool) → (if b then src.take_all fs' (map n.value xs) else None) ≡ option_map vars_under (if b then src.take_all fs xs else None)
+        at : (b : Bool) → (if b then src.take_all fs' (map n.value xs) else None)
+            ≡ option_map vars_under (if b then src.take_all fs xs else None)
         at true = take_all_under fs fs' hs xs
         at false = refl
 
-        go : (o : Option (ℕ × List Ty)) → option_and_then (λ q. if q.0 == k then src.take_all fs' (map n.value xs) else None) (option_map (place_under n) o)
+        go : (o : Option (ℕ × List Ty)) → option_and_then (λ q. if q.0 == k then src.take_all fs' (map n.value xs) else None)
+            (option_map (place_under n) o)
             ≡ option_map vars_under (option_and_then (λ q. if q.0 == k then src.take_all fs xs else None) o)
         go None = refl
         go (Some q) = at (q.0 == k)
     con_taking x fs fs' hs _ = refl
 
-    make_taking : (x : List ℕ) (fs fs' : List src.Taking) → Each SameTaking fs fs' → TakesLayer (Pat-F.Make x fs) (Pat-F.Make (n.named x) fs')
+    make_taking : (x : List ℕ) (fs fs' : List src.Taking) → Each SameTaking fs fs'
+        → TakesLayer (Pat-F.Make x fs) (Pat-F.Make (n.named x) fs')
     make_taking x fs fs' hs (Value-F.Struct names xs) = take_all_under fs fs' hs xs
     make_taking x fs fs' hs _ = refl
 
@@ -81,17 +89,22 @@ module _ (n : Naming) where
 
     -- a pattern and the one under the new names, each by what it is made of
     by_layers : (o : Pat-F Pat) → SameTaking (src.taking_of defs (map-Pat Pat src.Taking (src.takes defs) o))
-        (src.taking_of (to n body defs) (map-Pat Pat src.Taking (src.takes (to n body defs)) (pat_under n.pat n.con n.named o))) → TakesSame (roll-Pat o)
+        (src.taking_of (to n body defs) (map-Pat Pat src.Taking (src.takes (to n body defs)) (pat_under n.pat n.con n.named o)))
+        → TakesSame (roll-Pat o)
     by_layers o h =
-        let old : src.takes defs (roll-Pat o) ≡ src.taking_of defs (map-Pat Pat src.Taking (src.takes defs) o) = fold-roll-Pat src.Taking (src.taking_of defs) o in
-        let new : src.takes (to n body defs) (n.pat (roll-Pat o)) ≡ src.taking_of (to n body defs) (map-Pat Pat src.Taking (src.takes (to n body defs)) (pat_under n.pat n.con n.named o)) =
+        let old : src.takes defs (roll-Pat o) ≡ src.taking_of defs (map-Pat Pat src.Taking (src.takes defs) o) = fold-roll-Pat src.Taking
+        (src.taking_of defs) o in
+        let new : src.takes (to n body defs) (n.pat (roll-Pat o))
+        ≡ src.taking_of (to n body defs) (map-Pat Pat src.Taking (src.takes (to n body defs)) (pat_under n.pat n.con n.named o)) =
         fold_out-Pat src.Taking (src.taking_of (to n body defs)) (n.pat (roll-Pat o))
-        ∙ ap (λ z. src.taking_of (to n body defs) (map-Pat Pat src.Taking (src.takes (to n body defs)) z)) (n.out_pat (roll-Pat o) ∙ ap (pat_under n.pat n.con n.named) (out-roll-Pat o)) in
+        ∙ ap (λ z. src.taking_of (to n body defs) (map-Pat Pat src.Taking (src.takes (to n body defs)) z)) (n.out_pat (roll-Pat o)
+        ∙ ap (pat_under n.pat n.con n.named) (out-roll-Pat o)) in
         subst (λ z. SameTaking z (src.takes (to n body defs) (n.pat (roll-Pat o)))) (sym old)
         (subst (SameTaking (src.taking_of defs (map-Pat Pat src.Taking (src.takes defs) o))) (sym new) h)
 
     module _ (X : Type 0) (w : X → Pat) (h : (x : X) → TakesSame (w x)) where
-      each_takes : (xs : List X) → Each SameTaking (map (src.takes defs) (map w xs)) (map (src.takes (to n body defs)) (map n.pat (map w xs)))
+      each_takes : (xs : List X) → Each SameTaking (map (src.takes defs) (map w xs)) (map (src.takes (to n body defs))
+          (map n.pat (map w xs)))
       each_takes [] = Each.none
       each_takes (x ∷ xs) = Each.one (h x) (each_takes xs)
 
@@ -103,11 +116,17 @@ module _ (n : Naming) where
       step_takes (Pat-F.Con x xs) =
           let fs = map (src.takes defs) (map w xs) in
           let fs' = map (src.takes (to n body defs)) (map n.pat (map w xs)) in
-          by_layers (Pat-F.Con x (map w xs)) (record { run = by_shape (Pat-F.Con x fs) (Pat-F.Con (n.con x) fs') (con_taking x fs fs' (each_takes xs)) })
+          by_layers (Pat-F.Con x (map w xs)) (record {
+            run = by_shape (Pat-F.Con x fs) (Pat-F.Con (n.con x) fs')
+                (con_taking x fs fs' (each_takes xs));
+          })
       step_takes (Pat-F.Make x xs) =
           let fs = map (src.takes defs) (map w xs) in
           let fs' = map (src.takes (to n body defs)) (map n.pat (map w xs)) in
-          by_layers (Pat-F.Make x (map w xs)) (record { run = by_shape (Pat-F.Make x fs) (Pat-F.Make (n.named x) fs') (make_taking x fs fs' (each_takes xs)) })
+          by_layers (Pat-F.Make x (map w xs)) (record {
+            run = by_shape (Pat-F.Make x fs) (Pat-F.Make (n.named x) fs')
+                (make_taking x fs fs' (each_takes xs));
+          })
 
     -- a pattern under the new names takes the same values
     pub takes_under : (q : Pat) → TakesSame q

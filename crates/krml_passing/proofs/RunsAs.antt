@@ -24,10 +24,12 @@ use Rattle.krml_passing.specs.RunsAs.{run_image, RunsAs, FitsAs}
 use Rattle.krml_passing.proofs.Alike.{alike_ends}
 
 -- one pass after another
-pub runs_then : (entry entry' : List ℕ → List ℕ) (event event' : SourceEvent → SourceEvent) (file middle to : SourceFile) → RunsAs entry event file middle → RunsAs entry' event' middle to
+pub runs_then : (entry entry' : List ℕ → List ℕ) (event event' : SourceEvent → SourceEvent) (file middle to : SourceFile)
+    → RunsAs entry event file middle → RunsAs entry' event' middle to
     → RunsAs (λ x. entry' (entry x)) (λ e. event' (event e)) file to
 runs_then entry entry' event event' file middle to h k x args bound = k (entry x) args bound ∙ ap (run_image event') (h x args bound)
-    ∙ ap (λ es. record { outcome = (src.source_run file x args bound).outcome; events = es }) (map_twice event event' (src.source_run file x args bound).events)
+    ∙ ap (λ es. record { outcome = (src.source_run file x args bound).outcome; events = es })
+    (map_twice event event' (src.source_run file x args bound).events)
 
 -- ---- what runs begin with
 
@@ -54,53 +56,66 @@ module _ (im : Images) (all : (w : Why) → im.keeps w ≡ true) where
   scalars_image [] = refl
   scalars_image (x ∷ xs) = rw (scalar_image x, scalars_image xs) refl
 
-  buffers_image : (n : ℕ) (m : List Block) → map (host.contents src.seen) (take n (memory_image im m)) ≡ map (host.contents src.seen) (take n m)
+  buffers_image : (n : ℕ) (m : List Block) → map (host.contents src.seen) (take n (memory_image im m))
+      ≡ map (host.contents src.seen) (take n m)
   buffers_image zero m = refl
   buffers_image (suc n) [] = refl
   buffers_image (suc n) (b ∷ m) = rw (scalars_image b.items, buffers_image n m) refl
 
   events_reversed : (es : List SourceEvent) → reverse (events_image im es) ≡ events_image im (reverse es)
   events_reversed [] = refl
-  events_reversed (e ∷ es) = reverse-append (event_image im e ∷ []) (events_image im es) ∙ ap (λ z. z ++ event_image im e ∷ []) (events_reversed es)
+  events_reversed (e ∷ es) = reverse-append (event_image im e ∷ []) (events_image im es)
+      ∙ ap (λ z. z ++ event_image im e ∷ []) (events_reversed es)
       ∙ sym (map-append (event_image im) (reverse es) (e ∷ [])) ∙ ap (events_image im) (sym (reverse-append (e ∷ []) es))
 
   kept_end : {A : Type 0} (w : Why) → WhereKept (im.keeps w) A → A
   kept_end {A = A} w h = subst (λ b. WhereKept b A) (all w) h
 
   -- a run that is like another has its outcome, and the images of its events
-  pub run_of_image : (buffers : ℕ) (r r' : SourceRan Value) → Alike im (IsImage im) r r' → host.run_of src.seen buffers r' ≡ run_image (event_image im) (host.run_of src.seen buffers r)
-  run_of_image buffers (Goes x s) r' h = rw (h.is, h.holds.memory, h.holds.holds) (rw (scalar_image x, buffers_image buffers s.memory, events_reversed s.events) refl)
+  pub run_of_image : (buffers : ℕ) (r r' : SourceRan Value) → Alike im (IsImage im) r r' → host.run_of src.seen buffers r'
+      ≡ run_image (event_image im) (host.run_of src.seen buffers r)
+  run_of_image buffers (Goes x s) r' h = rw (h.is, h.holds.memory, h.holds.holds) (rw (
+    scalar_image x,
+    buffers_image buffers s.memory,
+    events_reversed s.events,
+  ) refl)
   run_of_image buffers (Ends w es) r' h = rw (kept_end w h) (rw (events_reversed es) refl)
 
   -- ---- calls
 
   -- Where something is called in the first file, and in the second what stands so to it, the calls do the same.
   abbrev pub CallsAlike : (R : src.Called → src.Called → List Block → Type 0) → src.Calls → src.Calls → Type 0
-  CallsAlike R calls calls' = (c c' : src.Called) (s : SourceState) → R c c' s.memory → Alike im (IsImage im) (calls c s) (calls' c' (state_image im s))
+  CallsAlike R calls calls' = (c c' : src.Called) (s : SourceState) → R c c' s.memory
+      → Alike im (IsImage im) (calls c s) (calls' c' (state_image im s))
 
   -- with as many levels left, where the bodies do the same
   pub enter_alike : (R : src.Called → src.Called → List Block → Type 0) (defs defs' : List Def)
       → ((calls calls' : src.Calls) → CallsAlike R calls calls' → CallsAlike R (src.body_of defs calls) (src.body_of defs' calls'))
       → (levels : ℕ) → CallsAlike R (src.enter defs levels) (src.enter defs' levels)
-  enter_alike R defs defs' body = within_both (CallsAlike R) (src.body_of defs) (src.body_of defs') (λ c c' s h. alike_ends im (IsImage im) Deep s) body
+  enter_alike R defs defs' body = within_both (CallsAlike R) (src.body_of defs) (src.body_of defs')
+      (λ c c' s h. alike_ends im (IsImage im) Deep s) body
 
   -- ---- files
 
   -- The two files begin their runs alike, and from there the second does what the first does.
   module _ (file to : SourceFile) (entry_image : List ℕ → List ℕ) (fun : src.Function → src.Function)
-      (begins : (entry : List ℕ) (args : List Arg) → src.start to (entry_image entry) args ≡ option_map (start_image im fun) (src.start file entry args)) where
+      (begins : (entry : List ℕ) (args : List Arg) → src.start to (entry_image entry) args
+      ≡ option_map (start_image im fun) (src.start file entry args)) where
     pub runs_as : ((entry : List ℕ) (args : List Arg) (bound : Bound) (b : src.Start) → src.start file entry args ≡ Some b
-        → Alike im (IsImage im) (host.run_from (src.called_by_host file) bound b) (host.run_from (src.called_by_host to) bound (start_image im fun b)))
+        → Alike im (IsImage im) (host.run_from (src.called_by_host file) bound b) (host.run_from (src.called_by_host to) bound
+        (start_image im fun b)))
         → RunsAs entry_image (event_image im) file to
     runs_as goes entry args bound = ap (host.run_started src.seen (src.called_by_host to) bound) (begins entry args.items)
         ∙ go (src.start file entry args.items) (goes entry args.items bound)
       where
         go : (o : Option src.Start)
-            → ((b : src.Start) → o ≡ Some b → Alike im (IsImage im) (host.run_from (src.called_by_host file) bound b) (host.run_from (src.called_by_host to) bound (start_image im fun b)))
+            → ((b : src.Start) → o ≡ Some b → Alike im (IsImage im) (host.run_from (src.called_by_host file) bound b)
+            (host.run_from (src.called_by_host to) bound (start_image im fun b)))
             → host.run_started src.seen (src.called_by_host to) bound (option_map (start_image im fun) o)
             ≡ run_image (event_image im) (host.run_started src.seen (src.called_by_host file) bound o)
         go None k = refl
-        go (Some b) k = rw (length-map b.passed.memory (block_image im)) (run_of_image (length b.passed.memory) (host.run_from (src.called_by_host file) bound b) _ (k b refl))
+        go (Some b) k = rw (length-map b.passed.memory (block_image im)) (run_of_image (length b.passed.memory)
+            (host.run_from (src.called_by_host file) bound b) _ (k b refl))
 
     pub fits_as : FitsAs entry_image file to
     fits_as entry args h = subst IsSome (sym (begins entry args.items)) (go (src.start file entry args.items) h)

@@ -71,9 +71,11 @@ module _ (im : Images) (ints : (i : IntTy) → im.ty (t.Int i) ≡ t.Int i) wher
   passings_stay [] [] = λ p. refl
   passings_stay [] (a ∷ args) = tt
   passings_stay (f ∷ params) [] = tt
-  passings_stay (f ∷ params) (a ∷ args) = go (src.passing f.name a (out-Ty f.ty)) (src.passings params args) (passing_stays f.name a (out-Ty f.ty)) (passings_stay params args)
+  passings_stay (f ∷ params) (a ∷ args) = go (src.passing f.name a (out-Ty f.ty)) (src.passings params args)
+      (passing_stays f.name a (out-Ty f.ty)) (passings_stay params args)
     where
-      go : (o : Option src.Passing) (os : Option (List src.Passing)) → IfSome o Stays → IfSome os AllStay → IfSome (option_and_then (λ k. option_map (λ ks. k ∷ ks) os) o) AllStay
+      go : (o : Option src.Passing) (os : Option (List src.Passing)) → IfSome o Stays → IfSome os AllStay
+          → IfSome (option_and_then (λ k. option_map (λ ks. k ∷ ks) os) o) AllStay
       go (Some k) (Some ks) h hs = λ p. ap (λ z. pass_all z ks) (h p) ∙ hs (pass p k)
       go (Some k) None h hs = tt
       go None os h hs = tt
@@ -87,17 +89,22 @@ module _ (im : Images) (ints : (i : IntTy) → im.ty (t.Int i) ≡ t.Int i) wher
   abbrev pub FitsAlike : (Ty → Ty) → Type 0
   FitsAlike ty = (x : List ℕ) (a : Arg) (b : Ty) → src.passing x a (out-Ty (ty b)) ≡ src.passing x a (out-Ty b)
 
-  passings_same : (ty : Ty → Ty) → FitsAlike ty → (params : List Field) (args : List Arg) → src.passings (map (param_as ty) params) args ≡ src.passings params args
+  passings_same : (ty : Ty → Ty) → FitsAlike ty → (params : List Field) (args : List Arg) → src.passings (map (param_as ty) params) args
+      ≡ src.passings params args
   passings_same ty fits [] [] = refl
   passings_same ty fits [] (a ∷ args) = refl
   passings_same ty fits (f ∷ params) [] = refl
   passings_same ty fits (f ∷ params) (a ∷ args) = rw (fits f.name a f.ty, passings_same ty fits params args) refl
 
   -- The functions of entries keep their parameters, under other types that the same arguments fit.
-  module _ (ty : Ty → Ty) (fits : FitsAlike ty) (fun : src.Function → src.Function) (params : (f : src.Function) → (fun f).params ≡ map (param_as ty) f.params) where
-    start_of_image : (args : List Arg) (f : src.Function) → src.start_of args (fun f) ≡ option_map (start_image im fun) (src.start_of args f)
-    start_of_image args f = ap (λ z. option_map (λ ks. record { function = fun f; passed = host.passed ks }) (src.passings z args)) (params f)
-        ∙ ap (option_map (λ ks. record { function = fun f; passed = host.passed ks })) (passings_same ty fits f.params args) ∙ go (src.passings f.params args) (passings_stay f.params args)
+  module _ (ty : Ty → Ty) (fits : FitsAlike ty) (fun : src.Function → src.Function) (params : (f : src.Function)
+      → (fun f).params ≡ map (param_as ty) f.params) where
+    start_of_image : (args : List Arg) (f : src.Function) → src.start_of args (fun f)
+        ≡ option_map (start_image im fun) (src.start_of args f)
+    start_of_image args f = ap (λ z. option_map (λ ks. record { function = fun f; passed = host.passed ks }) (src.passings z args))
+        (params f)
+        ∙ ap (option_map (λ ks. record { function = fun f; passed = host.passed ks })) (passings_same ty fits f.params args)
+        ∙ go (src.passings f.params args) (passings_stay f.params args)
       where
         go : (o : Option (List src.Passing)) → IfSome o AllStay → option_map (λ ks. record { function = fun f; passed = host.passed ks }) o
             ≡ option_map (start_image im fun) (option_map (λ ks. record { function = f; passed = host.passed ks }) o)
@@ -105,17 +112,23 @@ module _ (im : Images) (ints : (i : IntTy) → im.ty (t.Int i) ≡ t.Int i) wher
         go None h = refl
 
     -- runs of entries begin alike, where entries are kept with their functions
-    pub starts_alike : (file to : SourceFile) (entry_image : List ℕ → List ℕ) → ((x : List ℕ) → src.has_entry to.defs (entry_image x) ≡ src.has_entry file.defs x)
-        → ((x : List ℕ) → src.has_entry file.defs x ≡ true → src.function_named to.defs (entry_image x) ≡ option_map fun (src.function_named file.defs x))
-        → (entry : List ℕ) (args : List Arg) → src.start to (entry_image entry) args ≡ option_map (start_image im fun) (src.start file entry args)
+    pub starts_alike : (file to : SourceFile) (entry_image : List ℕ → List ℕ)
+        → ((x : List ℕ) → src.has_entry to.defs (entry_image x) ≡ src.has_entry file.defs x)
+        → ((x : List ℕ) → src.has_entry file.defs x ≡ true → src.function_named to.defs (entry_image x)
+        ≡ option_map fun (src.function_named file.defs x))
+        → (entry : List ℕ) (args : List Arg) → src.start to (entry_image entry) args
+        ≡ option_map (start_image im fun) (src.start file entry args)
     starts_alike file to entry_image entries functions entry args =
-        ap (λ b. if b then option_and_then (src.start_of args) (src.function_named to.defs (entry_image entry)) else None) (entries entry) ∙ go (src.has_entry file.defs entry) refl
+        ap (λ b. if b then option_and_then (src.start_of args) (src.function_named to.defs (entry_image entry)) else None) (entries entry)
+        ∙ go (src.has_entry file.defs entry) refl
       where
-        at : (o : Option src.Function) → option_and_then (src.start_of args) (option_map fun o) ≡ option_map (start_image im fun) (option_and_then (src.start_of args) o)
+        at : (o : Option src.Function) → option_and_then (src.start_of args) (option_map fun o)
+            ≡ option_map (start_image im fun) (option_and_then (src.start_of args) o)
         at (Some f) = start_of_image args f
         at None = refl
 
-        go : (b : Bool) → src.has_entry file.defs entry ≡ b → (if b then option_and_then (src.start_of args) (src.function_named to.defs (entry_image entry)) else None)
+        go : (b : Bool) → src.has_entry file.defs entry ≡ b
+            → (if b then option_and_then (src.start_of args) (src.function_named to.defs (entry_image entry)) else None)
             ≡ option_map (start_image im fun) (if b then option_and_then (src.start_of args) (src.function_named file.defs entry) else None)
         go true e = ap (option_and_then (src.start_of args)) (functions entry e) ∙ at (src.function_named file.defs entry)
         go false e = refl

@@ -47,8 +47,10 @@ module _ (im : Images) where
   pub num_value : (w : Width) (n : ℕ) → im.value (v.Num w n) ≡ v.Num w n
   num_value w n = value_is (v.Num w n) ∙ ap (λ o. roll-Value (under o)) (v.outs-Num w n) ∙ v.rolls-Num w n
 
-  pub struct_value : (names : List (List ℕ)) (xs : List Value) → im.value (v.Struct names xs) ≡ v.Struct (map im.field names) (map im.value xs)
-  struct_value names xs = value_is (v.Struct names xs) ∙ ap (λ o. roll-Value (under o)) (v.outs-Struct names xs) ∙ v.rolls-Struct (map im.field names) (map im.value xs)
+  pub struct_value : (names : List (List ℕ)) (xs : List Value) → im.value (v.Struct names xs)
+      ≡ v.Struct (map im.field names) (map im.value xs)
+  struct_value names xs = value_is (v.Struct names xs) ∙ ap (λ o. roll-Value (under o)) (v.outs-Struct names xs)
+      ∙ v.rolls-Struct (map im.field names) (map im.value xs)
 
   pub con_value : (k : ℕ) (xs : List Value) → im.value (v.Con k xs) ≡ v.Con k (map im.value xs)
   con_value k xs = value_is (v.Con k xs) ∙ ap (λ o. roll-Value (under o)) (v.outs-Con k xs) ∙ v.rolls-Con k (map im.value xs)
@@ -58,31 +60,40 @@ module _ (im : Images) where
 
   -- ---- memory
 
-  pub put_image : (n i : ℕ) (a : Value) (b : Block) (s : SourceState) → put n i (im.value a) (block_image im b) (state_image im s) ≡ state_image im (put n i a b s)
+  pub put_image : (n i : ℕ) (a : Value) (b : Block) (s : SourceState) → put n i (im.value a) (block_image im b) (state_image im s)
+      ≡ state_image im (put n i a b s)
   put_image n i a b s =
-      let item : block_image im (with_item i a b) ≡ with_item i (im.value a) (block_image im b) = ap (λ z. record (block_image im b) { items = z }) (map_set_or_add im.value i a b.items) in
-      ap (λ z. record (state_image im s) { memory = z }) (sym (map_update (block_image im) n (with_item i a b) s.memory ∙ ap (λ z. update n z (memory_image im s.memory)) item))
+      let item : block_image im (with_item i a b) ≡ with_item i (im.value a) (block_image im b) = ap
+      (λ z. record (block_image im b) { items = z }) (map_set_or_add im.value i a b.items) in
+      ap (λ z. record (state_image im s) { memory = z }) (sym (map_update (block_image im) n (with_item i a b) s.memory
+      ∙ ap (λ z. update n z (memory_image im s.memory)) item))
 
   fresh_image : (slots : List Slot) → map fresh (map (slot_image im) slots) ≡ memory_image im (map fresh slots)
   fresh_image [] = refl
   fresh_image (s ∷ slots) = ap (λ z. fresh (slot_image im s) ∷ z) (fresh_image slots)
 
-  pub push_image : (slots : List Slot) (s : SourceState) → src.push (map (slot_image im) slots) (state_image im s) ≡ state_image im (src.push slots s)
+  pub push_image : (slots : List Slot) (s : SourceState) → src.push (map (slot_image im) slots) (state_image im s)
+      ≡ state_image im (src.push slots s)
   push_image slots s = ap (λ z. record (state_image im (src.push slots s)) { memory = z })
       (ap (λ z. memory_image im s.memory ++ z) (fresh_image slots) ∙ sym (map-append (block_image im) s.memory (map fresh slots)))
 
   pub pop_image : (n : ℕ) (s : SourceState) → src.pop n (state_image im s) ≡ state_image im (src.pop n s)
-  pop_image n s = ap (λ z. record (state_image im (src.pop n s)) { memory = z }) (sym (map_close dead dead (block_image im) (λ b. refl) n s.memory))
+  pop_image n s = ap (λ z. record (state_image im (src.pop n s)) { memory = z })
+      (sym (map_close dead dead (block_image im) (λ b. refl) n s.memory))
 
   -- ---- values by shape
 
   module _ {A A' : Type 0} (Q : Both A A') where
     -- where a number is asked for, with what the first value is made of
-    pub number_is_alike : (w : Width) (x x' : Value) → x' ≡ im.value x → (s : SourceState) (next : ℕ → SourceRan A) (next' : ℕ → SourceRan A')
-        → ((u : Width) (n : ℕ) → out-Value x ≡ Value-F.Num u n → same_width w u ≡ true → Alike im Q (next n) (next' n)) → Alike im Q (as_number w x s next) (as_number w x' (state_image im s) next')
-    number_is_alike w x x' e s next next' k = alike_to im Q (as_number w x s next) (ap (λ o. number_in w o (state_image im s) next') (ap out-Value e ∙ im.out x)) (go (out-Value x) refl)
+    pub number_is_alike : (w : Width) (x x' : Value) → x' ≡ im.value x → (s : SourceState) (next : ℕ → SourceRan A) (next' : ℕ
+        → SourceRan A')
+        → ((u : Width) (n : ℕ) → out-Value x ≡ Value-F.Num u n → same_width w u ≡ true → Alike im Q (next n) (next' n))
+        → Alike im Q (as_number w x s next) (as_number w x' (state_image im s) next')
+    number_is_alike w x x' e s next next' k = alike_to im Q (as_number w x s next) (ap (λ o. number_in w o (state_image im s) next')
+        (ap out-Value e ∙ im.out x)) (go (out-Value x) refl)
       where
-        of_width : (u : Width) (n : ℕ) → out-Value x ≡ Value-F.Num u n → (b : Bool) → same_width w u ≡ b → Alike im Q (check Undefined b s (next n)) (check Undefined b (state_image im s) (next' n))
+        of_width : (u : Width) (n : ℕ) → out-Value x ≡ Value-F.Num u n → (b : Bool) → same_width w u ≡ b
+            → Alike im Q (check Undefined b s (next n)) (check Undefined b (state_image im s) (next' n))
         of_width u n is true same = k u n is same
         of_width u n is false same = alike_ends im Q Undefined s
 
@@ -96,32 +107,41 @@ module _ (im : Images) where
 
     pub truth_alike : (x x' : Value) → x' ≡ im.value x → (s : SourceState) (next : Bool → SourceRan A) (next' : Bool → SourceRan A')
         → ((b : Bool) → Alike im Q (next b) (next' b)) → Alike im Q (as_truth x s next) (as_truth x' (state_image im s) next')
-    truth_alike x x' e s next next' k = alike_to im Q (as_truth x s next) (ap (λ o. truth_in o (state_image im s) next') (ap out-Value e ∙ im.out x)) (go (out-Value x))
+    truth_alike x x' e s next next' k = alike_to im Q (as_truth x s next) (ap (λ o. truth_in o (state_image im s) next') (ap out-Value e
+        ∙ im.out x)) (go (out-Value x))
       where
         go : (o : Value-F Value) → Alike im Q (truth_in o s next) (truth_in (under o) (state_image im s) next')
         go (Value-F.Bool b) = k b
         go _ = alike_ends im Q Undefined s
 
-    pub buffer_alike : (x x' : Value) → x' ≡ im.value x → (s : SourceState) (next : ℕ → ℕ → ℕ → SourceRan A) (next' : ℕ → ℕ → ℕ → SourceRan A')
-        → ((b off len : ℕ) → Alike im Q (next b off len) (next' b off len)) → Alike im Q (as_buffer x s next) (as_buffer x' (state_image im s) next')
-    buffer_alike x x' e s next next' k = alike_to im Q (as_buffer x s next) (ap (λ o. buffer_in o (state_image im s) next') (ap out-Value e ∙ im.out x)) (go (out-Value x))
+    pub buffer_alike : (x x' : Value) → x' ≡ im.value x → (s : SourceState) (next : ℕ → ℕ → ℕ → SourceRan A) (next' : ℕ → ℕ → ℕ
+        → SourceRan A')
+        → ((b off len : ℕ) → Alike im Q (next b off len) (next' b off len))
+        → Alike im Q (as_buffer x s next) (as_buffer x' (state_image im s) next')
+    buffer_alike x x' e s next next' k = alike_to im Q (as_buffer x s next) (ap (λ o. buffer_in o (state_image im s) next') (ap out-Value e
+        ∙ im.out x)) (go (out-Value x))
       where
         go : (o : Value-F Value) → Alike im Q (buffer_in o s next) (buffer_in (under o) (state_image im s) next')
         go (Value-F.Buf b off len) = k b off len
         go _ = alike_ends im Q Undefined s
 
-    pub struct_alike : (x x' : Value) → x' ≡ im.value x → (s : SourceState) (next : List (List ℕ) → List Value → SourceRan A) (next' : List (List ℕ) → List Value → SourceRan A')
+    pub struct_alike : (x x' : Value) → x' ≡ im.value x → (s : SourceState) (next : List (List ℕ) → List Value
+        → SourceRan A) (next' : List (List ℕ) → List Value → SourceRan A')
         → ((names : List (List ℕ)) (xs : List Value) → Alike im Q (next names xs) (next' (map im.field names) (map im.value xs)))
         → Alike im Q (as_struct x s next) (as_struct x' (state_image im s) next')
-    struct_alike x x' e s next next' k = alike_to im Q (as_struct x s next) (ap (λ o. struct_in o (state_image im s) next') (ap out-Value e ∙ im.out x)) (go (out-Value x))
+    struct_alike x x' e s next next' k = alike_to im Q (as_struct x s next) (ap (λ o. struct_in o (state_image im s) next') (ap out-Value e
+        ∙ im.out x)) (go (out-Value x))
       where
         go : (o : Value-F Value) → Alike im Q (struct_in o s next) (struct_in (under o) (state_image im s) next')
         go (Value-F.Struct names xs) = k names xs
         go _ = alike_ends im Q Undefined s
 
-    pub con_alike : (x x' : Value) → x' ≡ im.value x → (s : SourceState) (next : ℕ → List Value → SourceRan A) (next' : ℕ → List Value → SourceRan A')
-        → ((j : ℕ) (xs : List Value) → Alike im Q (next j xs) (next' j (map im.value xs))) → Alike im Q (as_con x s next) (as_con x' (state_image im s) next')
-    con_alike x x' e s next next' k = alike_to im Q (as_con x s next) (ap (λ o. con_in o (state_image im s) next') (ap out-Value e ∙ im.out x)) (go (out-Value x))
+    pub con_alike : (x x' : Value) → x' ≡ im.value x → (s : SourceState) (next : ℕ → List Value → SourceRan A) (next' : ℕ → List Value
+        → SourceRan A')
+        → ((j : ℕ) (xs : List Value) → Alike im Q (next j xs) (next' j (map im.value xs)))
+        → Alike im Q (as_con x s next) (as_con x' (state_image im s) next')
+    con_alike x x' e s next next' k = alike_to im Q (as_con x s next) (ap (λ o. con_in o (state_image im s) next') (ap out-Value e
+        ∙ im.out x)) (go (out-Value x))
       where
         go : (o : Value-F Value) → Alike im Q (con_in o s next) (con_in (under o) (state_image im s) next')
         go (Value-F.Con j xs) = k j xs

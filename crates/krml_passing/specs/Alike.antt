@@ -61,11 +61,13 @@ module _ (im : Images) where
 
   -- It does, and where it goes on, this holds of its value, and the scopes still stand so in the memory that it leaves.
   pub record Does (I : Scopes) (P : Of Value) (a a' : Sem) : Type 0 where
-    pub run : (env env' : Env) (s : SourceState) → I env env' s.memory → Alike im (Gives I P env env') (a env s) (a' env' (state_image im s))
+    pub run : (env env' : Env) (s : SourceState) → I env env' s.memory
+        → Alike im (Gives I P env env') (a env s) (a' env' (state_image im s))
 
   -- The same of several, from left to right.
   pub record DoAll (I : Scopes) (P : Of (List Value)) (es es' : List Sem) : Type 0 where
-    pub run : (env env' : Env) (s : SourceState) → I env env' s.memory → Alike im (GivesAll I P env env') (src.values es env s) (src.values es' env' (state_image im s))
+    pub run : (env env' : Env) (s : SourceState) → I env env' s.memory
+        → Alike im (GivesAll I P env env') (src.values es env s) (src.values es' env' (state_image im s))
 
   -- What stands in a `do` leads to scopes that stand to one another as J says.
   pub record Leads (I J : Scopes) (step step' : src.Step) : Type 0 where

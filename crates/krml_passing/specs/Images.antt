@@ -7,18 +7,18 @@ use Rattle.krml_syntax.specs.declared.tree.Ty.{Ty}
 use Rattle.krml_syntax.specs.declared.tree.Slot.{Slot}
 use Rattle.krml_ast.specs.declared.event.SourceEvent.{SourceEvent}
 use Rattle.krml_ast.specs.declared.event.SourceEvent.TheVariants as event
-use Rattle.krml_meaning.specs.declared.value.Value.{Value, out-Value}
+use Rattle.krml_meaning.specs.declared.value.Value.{Value, out-Value, map-Value}
 use Rattle.krml_meaning.specs.declared.value.Value.TheOpen.{Value-F}
 use Rattle.krml_meaning.specs.State.{Block, SourceState, Variables}
 
+-- one layer of a value under other names of fields
+abbrev pub value_renamed : {X : Type 0} → (List ℕ → List ℕ) → Value-F X → Value-F X
+value_renamed field (Value-F.Struct names xs) = Value-F.Struct (map field names) xs
+value_renamed field y = y
+
 -- what a value is made of, where its parts become others and its fields get other names
 abbrev pub value_under : (Value → Value) → (List ℕ → List ℕ) → Value-F Value → Value-F Value
-value_under value field Value-F.Unit = Value-F.Unit
-value_under value field (Value-F.Bool b) = Value-F.Bool b
-value_under value field (Value-F.Num w n) = Value-F.Num w n
-value_under value field (Value-F.Struct names xs) = Value-F.Struct (map field names) (map value xs)
-value_under value field (Value-F.Con k xs) = Value-F.Con k (map value xs)
-value_under value field (Value-F.Buf b off len) = Value-F.Buf b off len
+value_under value field o = value_renamed field (map-Value Value Value value o)
 
 -- The images of a pass: of values, of the names of fields, of the closed types of blocks, and of the place of a table among
 -- the definitions. Values keep their shape, and fields are told apart as before. Beside them stand the ends of a run that the

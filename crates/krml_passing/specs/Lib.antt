@@ -1,4 +1,5 @@
 pub mod Alike
 pub mod Images
+pub mod Laws
 pub mod Naming
 pub mod RunsAs

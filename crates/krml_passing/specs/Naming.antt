@@ -1,40 +1,57 @@
 -- Other names for the definitions of a file, and a file under them.
 use Rattle.std.specs.Prelude.{◌≡◌, ℕ, Bool, true, List, map}
 use Rattle.std.specs.Str.{bytes_eq}
-use Rattle.krml_syntax.specs.declared.tree.Ty.{Ty, out-Ty}
+use Rattle.krml_syntax.specs.declared.tree.Ty.{Ty, out-Ty, roll-Ty, map-Ty}
 use Rattle.krml_syntax.specs.declared.tree.Ty.TheOpen.{Ty-F}
+use Rattle.krml_syntax.specs.declared.tree.Ty.TheFolds.{fold-Ty}
 use Rattle.krml_syntax.specs.declared.tree.Field.{Field}
 use Rattle.krml_syntax.specs.declared.tree.Con.{Con}
-use Rattle.krml_syntax.specs.declared.tree.Pat.{Pat, out-Pat}
+use Rattle.krml_syntax.specs.declared.tree.Pat.{Pat, out-Pat, roll-Pat, map-Pat}
 use Rattle.krml_syntax.specs.declared.tree.Pat.TheOpen.{Pat-F}
+use Rattle.krml_syntax.specs.declared.tree.Pat.TheFolds.{fold-Pat}
 use Rattle.krml_syntax.specs.declared.tree.Expr.{Expr}
 use Rattle.krml_syntax.specs.declared.tree.Def.{Def}
 use Rattle.krml_syntax.specs.declared.tree.Def.TheVariants as d
 use Rattle.krml_syntax.specs.declared.tree.SourceFile.{SourceFile}
-use Rattle.krml_meaning.specs.declared.value.Value.{Value, out-Value}
+use Rattle.krml_meaning.specs.declared.value.Value.{Value, out-Value, roll-Value}
+use Rattle.krml_meaning.specs.declared.value.Value.TheFolds.{fold-Value}
 use Rattle.krml_meaning.specs.State.{Env}
 use Rattle.krml_meaning.specs.Meaning.{Function}
-use Rattle.krml_passing.specs.Images.{Images, value_under, vars_image}
+use Rattle.krml_passing.specs.Images.{Images, value_renamed, value_under, vars_image}
 use Rattle.krml_passing.specs.Alike.{Scopes}
 use Rattle.krml_rename.specs.Renaming.{Renaming, expr_renamed}
 
--- what a type is made of, where its parts become others and structs and sums get other names
-abbrev pub ty_under : (Ty → Ty) → (List ℕ → List ℕ) → Ty-F Ty → Ty-F Ty
-ty_under ty named Ty-F.Bool = Ty-F.Bool
-ty_under ty named Ty-F.Unit = Ty-F.Unit
-ty_under ty named (Ty-F.Int i) = Ty-F.Int i
-ty_under ty named (Ty-F.Buf a) = Ty-F.Buf (ty a)
-ty_under ty named (Ty-F.Var x) = Ty-F.Var x
-ty_under ty named (Ty-F.Named x args) = Ty-F.Named (named x) (map ty args)
+-- ---- types, patterns and values, layer by layer
 
--- what a pattern is made of, where its parts become others and constructors and structs get other names
+-- one layer of a type under other names of structs and sums
+abbrev pub ty_renamed : {X : Type 0} → (List ℕ → List ℕ) → Ty-F X → Ty-F X
+ty_renamed named (Ty-F.Named x args) = Ty-F.Named (named x) args
+ty_renamed named y = y
+
+-- one layer of a pattern under other names of constructors and of structs
+abbrev pub pat_renamed : {X : Type 0} → (List ℕ → List ℕ) → (List ℕ → List ℕ) → Pat-F X → Pat-F X
+pat_renamed con named (Pat-F.Con x qs) = Pat-F.Con (con x) qs
+pat_renamed con named (Pat-F.Make x qs) = Pat-F.Make (named x) qs
+pat_renamed con named y = y
+
+-- what a type is made of, and a pattern, where the parts become others
+abbrev pub ty_under : (Ty → Ty) → (List ℕ → List ℕ) → Ty-F Ty → Ty-F Ty
+ty_under ty named o = ty_renamed named (map-Ty Ty Ty ty o)
+
 abbrev pub pat_under : (Pat → Pat) → (List ℕ → List ℕ) → (List ℕ → List ℕ) → Pat-F Pat → Pat-F Pat
-pat_under pat con named Pat-F.Any = Pat-F.Any
-pat_under pat con named (Pat-F.Bind x) = Pat-F.Bind x
-pat_under pat con named (Pat-F.Bool b) = Pat-F.Bool b
-pat_under pat con named (Pat-F.Num i n) = Pat-F.Num i n
-pat_under pat con named (Pat-F.Con x qs) = Pat-F.Con (con x) (map pat qs)
-pat_under pat con named (Pat-F.Make x qs) = Pat-F.Make (named x) (map pat qs)
+pat_under pat con named o = pat_renamed con named (map-Pat Pat Pat pat o)
+
+-- every layer under other names
+abbrev pub ty_named : (List ℕ → List ℕ) → Ty → Ty
+ty_named named = fold-Ty Ty (λ y. roll-Ty (ty_renamed named y))
+
+abbrev pub pat_named : (List ℕ → List ℕ) → (List ℕ → List ℕ) → Pat → Pat
+pat_named con named = fold-Pat Pat (λ y. roll-Pat (pat_renamed con named y))
+
+abbrev pub value_named : (List ℕ → List ℕ) → Value → Value
+value_named field = fold-Value Value (λ y. roll-Value (value_renamed field y))
+
+-- ---- names
 
 -- different names stay different
 abbrev pub TellsApart : (List ℕ → List ℕ) → Type 0

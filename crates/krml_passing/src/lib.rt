@@ -1,2 +1,6 @@
 //! Passes from tree to tree: what a pass makes of runs, and that it keeps them.
 #![tactic(auto)]
+
+mod laws;
+
+pub use laws::{renamed_files_run, rewritten_files_run};

@@ -1,0 +1,14 @@
+//! Laws about passes, as contracts of calls that do nothing.
+
+ghost use Rattle.krml_passing.specs.Laws.{RenamedFilesFit, RenamedFilesRun, RewrittenFilesRun};
+
+/// A file under new names that tell names apart runs as the file does, and takes the same arguments.
+pub fn renamed_files_run()
+    ensures runs { RenamedFilesRun }
+    ensures fits { RenamedFilesFit }
+{}
+
+/// A file in whose bodies layers are replaced by what means the same runs as before.
+pub fn rewritten_files_run()
+    ensures runs { RewrittenFilesRun }
+{}
