@@ -1,6 +1,8 @@
 -- What a name means in a file, and its new name in the file under the new names, whatever bodies of functions become.
 use Rattle.std.proofs.Common.{◌≡◌, ℕ, zero, suc, Bool, true, false, if◌then◌else◌, List, [], ◌∷◌, map, length, Option, Some, None, option_map, option_and_then, bytes_eq, refl, sym, ap, ◌∙◌, subst}
 use Rattle.std.proofs.lemmas.List.{length-map}
+use Rattle.krml_trace.specs.First.{first, numbered}
+use Rattle.krml_trace.proofs.First.{first_map, first_same, first_mapped, image_if, numbered_map}
 use Rattle.krml_syntax.specs.declared.tree.Ty.{Ty, out-Ty, roll-Ty, map-Ty}
 use Rattle.krml_syntax.specs.declared.tree.Ty.TheVariants as t
 use Rattle.krml_syntax.specs.declared.tree.Ty.TheViews.{roll-out-Ty}
@@ -14,7 +16,7 @@ use Rattle.krml_syntax.specs.declared.tree.Def.{Def}
 use Rattle.krml_syntax.specs.declared.tree.Def.TheVariants as d
 use Rattle.krml_syntax.specs.Types.{argument_of, type_at}
 use Rattle.krml_syntax.proofs.Types.{at_bool, at_unit, at_int, at_buf, at_var, at_named}
-use Rattle.krml_ast.specs.Names.{Composite, Struct, Sum, type_named}
+use Rattle.krml_ast.specs.Names.{Composite, Struct, Sum, type_here, type_named}
 use Rattle.krml_ast.specs.WellTyped.{names_of}
 use Rattle.krml_meaning.specs.declared.value.Value.{Value}
 use Rattle.krml_meaning.specs.declared.value.Value.TheVariants as v
@@ -22,7 +24,6 @@ use Rattle.krml_meaning.specs.Meaning as src
 use Rattle.krml_passing.specs.Images.{Images}
 use Rattle.krml_passing.specs.Naming.{Naming, ty_under, images_of, field_under, param_under, con_under, def_under, function_under}
 use Rattle.krml_passing.proofs.Values as is
-use Rattle.krml_passing.proofs.Values.{first_image}
 
 module _ (n : Naming) where
   -- ---- types
@@ -102,26 +103,25 @@ module _ (n : Naming) where
   abbrev pub place_under : ℕ × List Ty → ℕ × List Ty
   place_under p = (p.0, map n.ty p.1)
 
-  place_in_under : (cons : List Con) (k : ℕ) (x : List ℕ) → src.place_in (map (con_under n) cons) k (n.con x)
-      ≡ option_map place_under (src.place_in cons k x)
-  place_in_under [] k x = refl
-  place_in_under (c ∷ cons) k x = rw (n.con_apart c.name x) (first_image place_under (bytes_eq c.name x) (
-    k,
-    c.args,
-  ) _ _ (place_in_under cons (suc k) x))
+  place_in_under : (cons : List Con) (x : List ℕ) → src.place_in (map (con_under n) cons) (n.con x) ≡ option_map place_under (src.place_in cons x)
+  place_in_under cons x = ap (first (src.place_here (n.con x))) (numbered_map (con_under n) 0 cons)
+      ∙ first_mapped (src.place_here x) (src.place_here (n.con x)) (λ p. (p.0, con_under n p.1)) place_under
+      (λ p. image_if place_under (n.con_apart p.1.name x) (p.0, p.1.args)) (numbered 0 cons)
 
   module _ (body : Expr → Expr) where
     abbrev pub to : List Def → List Def
     to defs = map (def_under n body) defs
 
+    type_under : (x : List ℕ) (def : Def) → type_here (n.named x) (def_under n body def) ≡ option_map composite_under (type_here x def)
+    type_under x (d.Struct name vars fields) = image_if composite_under (n.named_apart name x) (Struct vars fields)
+    type_under x (d.Sum name vars cons) = image_if composite_under (n.named_apart name x) (Sum vars cons)
+    type_under x (d.Table name i nums) = refl
+    type_under x (d.Fun name vars params result e) = refl
+    type_under x (d.Entry name) = refl
+
     pub type_named_under : (defs : List Def) (x : List ℕ) → type_named (to defs) (n.named x)
         ≡ option_map composite_under (type_named defs x)
-    type_named_under [] x = refl
-    type_named_under (d.Struct name vars fields ∷ defs) x =
-        rw (n.named_apart name x) (first_image composite_under (bytes_eq name x) (Struct vars fields) _ _ (type_named_under defs x))
-    type_named_under (d.Sum name vars cons ∷ defs) x =
-        rw (n.named_apart name x) (first_image composite_under (bytes_eq name x) (Sum vars cons) _ _ (type_named_under defs x))
-    type_named_under (_ ∷ defs) x = type_named_under defs x
+    type_named_under defs x = first_mapped (type_here x) (type_here (n.named x)) (def_under n body) composite_under (type_under x) defs
 
     pub fields_of_under : (defs : List Def) (x : List ℕ) → src.fields_of (type_named (to defs) (n.named x))
         ≡ option_map (map n.field) (src.fields_of (type_named defs x))
@@ -132,30 +132,40 @@ module _ (n : Naming) where
         go (Some (Sum vars cons)) = refl
         go None = refl
 
+    con_under_place : (x : List ℕ) (def : Def) → src.con_place_here (n.con x) (def_under n body def) ≡ option_map place_under (src.con_place_here x def)
+    con_under_place x (d.Sum name vars cons) = place_in_under cons x
+    con_under_place x (d.Struct name vars fields) = refl
+    con_under_place x (d.Table name i nums) = refl
+    con_under_place x (d.Fun name vars params result e) = refl
+    con_under_place x (d.Entry name) = refl
+
     pub con_place_under : (defs : List Def) (x : List ℕ) → src.con_place (to defs) (n.con x) ≡ option_map place_under (src.con_place defs x)
-    con_place_under [] x = refl
-    con_place_under (d.Sum name vars cons ∷ defs) x = rw (place_in_under cons 0 x, con_place_under defs x) (go (src.place_in cons 0 x))
-      where
-        go : (o : Option (ℕ × List Ty)) → src.place_or (option_map place_under o) (option_map place_under (src.con_place defs x))
-            ≡ option_map place_under (src.place_or o (src.con_place defs x))
-        go (Some p) = refl
-        go None = refl
-    con_place_under (_ ∷ defs) x = con_place_under defs x
+    con_place_under defs x = first_mapped (src.con_place_here x) (src.con_place_here (n.con x)) (def_under n body) place_under (con_under_place x) defs
 
     -- ---- tables, functions and entries
 
+    table_under : (x : List ℕ) (p : ℕ × Def) → src.table_at p.0 (n.table x) (def_under n body p.1) ≡ src.table_at p.0 x p.1
+    table_under x (k, d.Table name i nums) = ap (λ b. if b then Some (record { place = k; ty = i; nums = nums }) else None) (n.table_apart name x)
+    table_under x (k, d.Struct name vars fields) = refl
+    table_under x (k, d.Sum name vars cons) = refl
+    table_under x (k, d.Fun name vars params result e) = refl
+    table_under x (k, d.Entry name) = refl
+
     pub table_from_under : (k : ℕ) (defs : List Def) (x : List ℕ) → src.table_from k (to defs) (n.table x) ≡ src.table_from k defs x
-    table_from_under k [] x = refl
-    table_from_under k (d.Table name i nums ∷ defs) x = rw (n.table_apart name x, table_from_under (suc k) defs x) refl
-    table_from_under k (_ ∷ defs) x = table_from_under (suc k) defs x
+    table_from_under k defs x = ap (first (λ p. src.table_at p.0 (n.table x) p.1)) (numbered_map (def_under n body) k defs)
+        ∙ first_map (λ p. src.table_at p.0 (n.table x) p.1) (λ p. (p.0, def_under n body p.1)) (numbered k defs)
+        ∙ first_same (λ p. src.table_at p.0 (n.table x) (def_under n body p.1)) (λ p. src.table_at p.0 x p.1) (numbered k defs) (table_under x)
+
+    fun_under : (x : List ℕ) (def : Def) → src.function_here (n.fun x) (def_under n body def) ≡ option_map (function_under n body) (src.function_here x def)
+    fun_under x (d.Fun name vars params result e) = image_if (function_under n body) (n.fun_apart name x) (record { tvars = vars; params = params; body = e })
+    fun_under x (d.Struct name vars fields) = refl
+    fun_under x (d.Sum name vars cons) = refl
+    fun_under x (d.Table name i nums) = refl
+    fun_under x (d.Entry name) = refl
 
     pub function_named_under : (defs : List Def) (x : List ℕ) → src.function_named (to defs) (n.fun x)
         ≡ option_map (function_under n body) (src.function_named defs x)
-    function_named_under [] x = refl
-    function_named_under (d.Fun name vars params result e ∷ defs) x = rw (n.fun_apart name x)
-        (first_image (function_under n body) (bytes_eq name x) (record { tvars = vars; params = params; body = e }) _ _
-        (function_named_under defs x))
-    function_named_under (_ ∷ defs) x = function_named_under defs x
+    function_named_under defs x = first_mapped (src.function_here x) (src.function_here (n.fun x)) (def_under n body) (function_under n body) (fun_under x) defs
 
     pub has_entry_under : (defs : List Def) (x : List ℕ) → src.has_entry (to defs) (n.fun x) ≡ src.has_entry defs x
     has_entry_under [] x = refl
