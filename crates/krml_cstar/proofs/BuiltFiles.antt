@@ -6,8 +6,6 @@ use Rattle.krml_forms.specs.declared.form.Form.{Form as Word}
 use Rattle.krml_syntax.specs.declared.limit.LimitKind.{LimitKind}
 use Rattle.krml_syntax.specs.declared.limit.LimitKind.TheVariants as k
 use Rattle.krml_syntax.specs.declared.tree.Field.{Field}
-use Rattle.krml_syntax.specs.declared.tree.Expr.{out-Expr}
-use Rattle.krml_syntax.specs.declared.tree.Expr.TheOpen.{Expr-F}
 use Rattle.krml_syntax.specs.declared.tree.Def.{Def}
 use Rattle.krml_syntax.specs.declared.tree.Def.TheVariants as d
 use Rattle.krml_syntax.specs.declared.tree.SourceFile.{SourceFile}
@@ -15,25 +13,27 @@ use Rattle.krml_syntax.specs.Name.{IsName}
 use Rattle.krml_syntax.specs.Spelling.{Each, SpellsField, SpellsDef}
 use Rattle.krml_syntax.specs.Limits.{counts_in, counts_each, excess, excess_or, first_excess, first_excess_of}
 use Rattle.krml_syntax.specs.File.{SpellsFile}
+use Rattle.krml_syntax.specs.Shape.{Role}
 use Rattle.krml_syntax.proofs.Limits.{none_above}
 use Rattle.krml_ast.specs.WellTyped.{type_name, con_names, table_name, fun_name}
 use Rattle.krml_ast.specs.Pieces.{Piece, Value, Test, Pattern, Written, Bound, pieces_in}
-use Rattle.krml_ast.specs.FileTypes.{Form, FormIn, EachForm, HasSize, IsSlot, HasSlots, SlotsIn, HasNoMatch, HasNoTag, HasNoCases, HasNoAlloc, HasNoSlots, ClosedIn, TestsIn, IsSourceName, IsVariable, IsTypedFile, IsChecked, IsMono, IsPlain, IsHoisted, field_names, bound_name, listed_vars}
+use Rattle.krml_ast.specs.FileTypes.{RoleIn, EachRole, role_of, HasSize, IsSlot, HasSlots, SlotsIn, HasNoMatch, HasNoTag, HasNoAlloc, HasNoSlots, ClosedIn, TestsIn, IsSourceName, IsVariable, IsTypedFile, IsChecked, IsMono, IsPlain, IsHoisted, field_names, bound_name, listed_vars}
+use Rattle.krml_meaning.specs.Sound.{CanRun}
 use Rattle.krml_meaning.proofs.Lists.{each_append, each_left, each_right, each_so}
 use Rattle.krml_meaning.proofs.Spelled.{IsSource, all_source, no_cases, no_slots}
 use Rattle.krml_cstar.specs.Built.{is_empty, is_ty_built, are_fields_built, is_expr_built, is_built, AreBuilt}
 use Rattle.krml_cstar.proofs.Part.{nothing_listed}
-use Rattle.krml_cstar.proofs.BuiltPieces.{Keeps, InPart, built_pieces}
+use Rattle.krml_cstar.proofs.BuiltPieces.{InPart, built_pieces}
 
 -- ---- what follows for each piece of what is built
 
--- what holds of the forms that the part keeps
-form_so : (P : Form → Type 0) → ((f : Form) → Keeps f → P f) → (x : Piece) → InPart x → FormIn P x
-form_so P so (Value x) h = so (out-Expr x) h
-form_so P so (Test x) h = absurd h
-form_so P so (Pattern q) h = tt
-form_so P so (Written a) h = tt
-form_so P so (Bound x) h = tt
+-- what holds of an ordinary form
+role_so : (P : Role → Type 0) → P Role.ordinary → (x : Piece) → InPart x → RoleIn P x
+role_so P so (Value x) h = subst P (sym h.ordinary) so
+role_so P so (Test x) h = absurd h
+role_so P so (Pattern q) h = tt
+role_so P so (Written a) h = tt
+role_so P so (Bound x) h = tt
 
 closed : (x : Piece) → InPart x → ClosedIn x
 closed (Value x) h = h.arguments
@@ -42,12 +42,8 @@ closed (Pattern q) h = absurd h
 closed (Written a) h = h
 closed (Bound x) h = tt
 
-untagged : (f : Form) → HasNoCases f → HasNoTag f
-untagged (Expr-F.TagIs x a) h = h
-untagged _ h = tt
-
 no_tests : (x : Piece) → InPart x → TestsIn x
-no_tests (Value x) h = untagged (out-Expr x) h.cases
+no_tests (Value x) h = subst HasNoTag (sym h.ordinary) tt
 no_tests (Test x) h = absurd h
 no_tests (Pattern q) h = absurd h
 no_tests (Written a) h = tt
@@ -57,27 +53,24 @@ module _ (defs : List Def) (built : AreBuilt defs) where
   all : AllByRecursion InPart (pieces_in defs)
   all = built_pieces defs built
 
-  each_form : (P : Form → Type 0) → ((f : Form) → Keeps f → P f) → EachForm P defs
-  each_form P so = each_so InPart (FormIn P) (pieces_in defs) (form_so P so) all
-
-  no_match : EachForm HasNoMatch defs
-  no_match = each_form HasNoMatch (λ f h. h.match)
-
-  no_alloc : EachForm HasNoAlloc defs
-  no_alloc = each_form HasNoAlloc (λ f h. h.alloc)
+  each_role : (P : Role → Type 0) → P Role.ordinary → EachRole P defs
+  each_role P so = each_so InPart (RoleIn P) (pieces_in defs) (role_so P so) all
 
   tests : AllByRecursion TestsIn (pieces_in defs)
   tests = each_so InPart TestsIn (pieces_in defs) no_tests all
 
+  pub built_can_run : EachRole (CanRun defs) defs
+  built_can_run = each_role (CanRun defs) tt
+
 -- ---- what no text spells
 
 -- frames without slots have no wrong ones
-no_wrong_slots : (defs : List Def) (f : Form) → HasNoSlots f → HasSlots defs f
-no_wrong_slots defs (Expr-F.Frame slots a) h = subst (AllByRecursion (IsSlot defs)) (sym h) tt
+no_wrong_slots : (defs : List Def) (r : Role) → HasNoSlots r → HasSlots defs r
+no_wrong_slots defs (Role.frame slots) h = subst (AllByRecursion (IsSlot defs)) (sym h) tt
 no_wrong_slots defs _ h = tt
 
-slots_in : (defs : List Def) (x : Piece) → FormIn HasNoSlots x → SlotsIn defs x
-slots_in defs (Value x) h = no_wrong_slots defs (out-Expr x) h
+slots_in : (defs : List Def) (x : Piece) → RoleIn HasNoSlots x → SlotsIn defs x
+slots_in defs (Value x) h = no_wrong_slots defs (role_of x) h
 slots_in defs (Test x) h = tt
 slots_in defs (Pattern q) h = tt
 slots_in defs (Written a) h = tt
@@ -201,7 +194,7 @@ is_mono file c built =
       regular = record {
         typed = c.typed_file.typed;
         sizes = sizes_of s.forms defs s.spelled built (elements_within s.forms defs s.limits);
-        slots = each_so (FormIn HasNoSlots) (SlotsIn defs) (pieces_in defs) (slots_in defs) (no_slots text file s);
+        slots = each_so (RoleIn HasNoSlots) (SlotsIn defs) (pieces_in defs) (slots_in defs) (no_slots text file s);
       };
       named = record {
         types = source (flat_map type_name defs) (names type_name type_named);
@@ -230,7 +223,7 @@ is_plain file m built =
         vars = each_so IsName IsVariable (flat_map bound_name (pieces_in file.defs)) (λ x ok. inl ok) n.vars;
       };
       monomorphic = m.monomorphic;
-      matches = no_match file.defs built;
+      matches = each_role file.defs built HasNoMatch tt;
       tests = tests file.defs built;
       slots = m.slots;
     }
@@ -242,7 +235,7 @@ is_hoisted file p built = record {
     monomorphic = p.monomorphic;
     matches = p.matches;
     tests = p.tests;
-    allocs = no_alloc file.defs built;
+    allocs = each_role file.defs built HasNoAlloc tt;
   };
   named = p.named;
 }

@@ -1,104 +1,144 @@
--- What it takes an expression to be built, form by form.
-use Rattle.std.proofs.Common.{◌≡◌, ℕ, Bool, true, false, ◌&&◌, List, map, sym, ◌∙◌}
+-- What it takes an expression to be built: its form is one that no pass takes away, at no type arguments, and the types that it
+-- writes and its parts are built.
+use Rattle.std.proofs.Common.{◌≡◌, ℕ, Bool, true, false, ◌&&◌, List, [], ◌∷◌, ◌++◌, map, refl, sym, ap, ◌∙◌, subst}
+use Rattle.std.specs.List.{AllByRecursion}
+use Rattle.std.proofs.lemmas.Bool.{and_parts}
 use Rattle.krml_syntax.specs.declared.tree.IntTy.{IntTy}
 use Rattle.krml_syntax.specs.declared.tree.Ty.{Ty}
-use Rattle.krml_syntax.specs.declared.tree.BinOp.{BinOp}
-use Rattle.krml_syntax.specs.declared.tree.CmpOp.{CmpOp}
-use Rattle.krml_syntax.specs.declared.tree.Slot.{Slot}
+use Rattle.krml_syntax.specs.declared.tree.Ty.TheVariants as t
 use Rattle.krml_syntax.specs.declared.tree.Arm.{Arm}
 use Rattle.krml_syntax.specs.declared.tree.Case.{Case}
 use Rattle.krml_syntax.specs.declared.tree.Item.{Item}
 use Rattle.krml_syntax.specs.declared.tree.Item.TheVariants as item
-use Rattle.krml_syntax.specs.declared.tree.Expr.{Expr}
-use Rattle.krml_syntax.specs.declared.tree.Expr.TheVariants as e
-use Rattle.krml_syntax.specs.declared.tree.Expr.TheFolds.{fold_out-Expr, fold_out-Item}
-use Rattle.krml_cstar.specs.Built.{is_public, is_empty, all, is_ty_built, is_expr_built, is_item_built}
-
-pub num_built : (i : IntTy) (n : ℕ) → is_expr_built (e.Num i n) ≡ is_public i
-num_built i n = rw (fold_out-Expr, e.outs-Num)
-
-pub bin_built : (o : BinOp) (i : IntTy) (a b : Expr) → is_expr_built (e.Bin o i a b) ≡ (is_public i && is_expr_built a && is_expr_built b)
-bin_built o i a b = rw (fold_out-Expr, e.outs-Bin)
-
-pub shift_built : (left : Bool) (i : IntTy) (a n : Expr) → is_expr_built (e.Shift left i a n) ≡ (is_public i && is_expr_built a && is_expr_built n)
-shift_built left i a n = rw (fold_out-Expr, e.outs-Shift)
-
-pub cmp_built : (o : CmpOp) (i : IntTy) (a b : Expr) → is_expr_built (e.Cmp o i a b) ≡ (is_public i && is_expr_built a && is_expr_built b)
-cmp_built o i a b = rw (fold_out-Expr, e.outs-Cmp)
-
-pub not_built : (a : Expr) → is_expr_built (e.Not a) ≡ (is_expr_built a)
-not_built a = rw (fold_out-Expr, e.outs-Not)
-
-pub cast_built : (i j : IntTy) (a : Expr) → is_expr_built (e.Cast i j a) ≡ (is_public i && is_public j && is_expr_built a)
-cast_built i j a = rw (fold_out-Expr, e.outs-Cast)
-
-pub make_built : (x : List ℕ) (args : List Ty) (es : List Expr) → is_expr_built (e.Make x args es) ≡ (is_empty args && all (map is_expr_built es))
-make_built x args es = rw (fold_out-Expr, e.outs-Make)
-
-pub get_built : (y : List ℕ) (a : Expr) → is_expr_built (e.Get y a) ≡ (is_expr_built a)
-get_built y a = rw (fold_out-Expr, e.outs-Get)
-
-pub tab_built : (x : List ℕ) (a : Expr) → is_expr_built (e.Tab x a) ≡ (is_expr_built a)
-tab_built x a = rw (fold_out-Expr, e.outs-Tab)
-
-pub choice_built : (c a b : Expr) → is_expr_built (e.If c a b) ≡ (is_expr_built c && is_expr_built a && is_expr_built b)
-choice_built c a b = rw (fold_out-Expr, e.outs-If)
-
-pub block_built : (items : List Item) (a : Expr) → is_expr_built (e.Do items a) ≡ (all (map is_item_built items) && is_expr_built a)
-block_built items a = rw (fold_out-Expr, e.outs-Do)
-
-pub while_built : (c a : Expr) → is_expr_built (e.While c a) ≡ (is_expr_built c && is_expr_built a)
-while_built c a = rw (fold_out-Expr, e.outs-While)
-
-pub for_built : (x : List ℕ) (a b c : Expr) → is_expr_built (e.For x a b c) ≡ (is_expr_built a && is_expr_built b && is_expr_built c)
-for_built x a b c = rw (fold_out-Expr, e.outs-For)
-
-pub call_built : (x : List ℕ) (args : List Ty) (es : List Expr) → is_expr_built (e.Call x args es) ≡ (is_empty args && all (map is_expr_built es))
-call_built x args es = rw (fold_out-Expr, e.outs-Call)
-
-pub bound_built : (x : List ℕ) (b : Ty) (a : Expr) → is_item_built (item.Let x b a) ≡ (is_ty_built b && is_expr_built a)
-bound_built x b a = rw (fold_out-Item, item.outs-Let)
-
-pub ran_built : (a : Expr) → is_item_built (item.Run a) ≡ is_expr_built a
-ran_built a = rw (fold_out-Item, item.outs-Run)
-
--- ---- forms that are not built
+use Rattle.krml_syntax.specs.declared.tree.Expr.{Expr, out-Expr}
+use Rattle.krml_syntax.specs.declared.tree.Expr.TheOpen.{Expr-F}
+use Rattle.krml_syntax.specs.declared.tree.Expr.TheFolds.{fold-Arm, fold-Case, fold_out-Expr, fold_out-Item}
+use Rattle.krml_syntax.specs.Shape.{map_layer, Part, parts_of, OfPart, OfParts, type_arguments, Role, role}
+use Rattle.krml_trace.proofs.Lists.{each_append, each_left, each_right}
+use Rattle.krml_ast.specs.Pieces.{written_types}
+use Rattle.krml_ast.proofs.Pieces.{Parts}
+use Rattle.krml_cstar.specs.Built.{is_public, is_empty, all, level_ty_built, is_ty_built, level_built, level_item_built, level_arm_built, level_case_built, is_expr_built, is_item_built}
+use Rattle.krml_cstar.proofs.Part.{nothing_listed}
 
 pub off : false ≡ true → ⊥
 off e = cc
 
-pub no_hide : (i : IntTy) (a : Expr) → is_expr_built (e.Hide i a) ≡ true → ⊥
-no_hide i a h = let q : is_expr_built (e.Hide i a) ≡ false = rw (fold_out-Expr, e.outs-Hide) in off (sym q ∙ h)
+and3 : (x y z : Bool) → (x && y && z) ≡ true → (x ≡ true) × (y ≡ true) × (z ≡ true)
+and3 x y z h = let one = and_parts (x && y) z h in let two = and_parts x y one.0 in (two.0, two.1, one.1)
 
-pub no_con : (x : List ℕ) (args : List Ty) (es : List Expr) → is_expr_built (e.Con x args es) ≡ true → ⊥
-no_con x args es h = let q : is_expr_built (e.Con x args es) ≡ false = rw (fold_out-Expr, e.outs-Con) in off (sym q ∙ h)
+-- ---- types
 
-pub no_read : (a i : Expr) → is_expr_built (e.Read a i) ≡ true → ⊥
-no_read a i h = let q : is_expr_built (e.Read a i) ≡ false = rw (fold_out-Expr, e.outs-Read) in off (sym q ∙ h)
+int_built : (i : IntTy) → is_public i ≡ true → is_ty_built (t.Int i) ≡ true
+int_built i h = ap level_ty_built (t.outs-Int i) ∙ h
 
-pub no_write : (a i v : Expr) → is_expr_built (e.Write a i v) ≡ true → ⊥
-no_write a i v h = let q : is_expr_built (e.Write a i v) ≡ false = rw (fold_out-Expr, e.outs-Write) in off (sym q ∙ h)
+pub is_public_built : (i : IntTy) → is_ty_built (t.Int i) ≡ true → is_public i ≡ true
+is_public_built i h = sym (ap level_ty_built (t.outs-Int i)) ∙ h
 
-pub no_slice : (a i n : Expr) → is_expr_built (e.Slice a i n) ≡ true → ⊥
-no_slice a i n h = let q : is_expr_built (e.Slice a i n) ≡ false = rw (fold_out-Expr, e.outs-Slice) in off (sym q ∙ h)
+abbrev pub TypesBuilt : List Ty → Type 0
+TypesBuilt types = AllByRecursion (λ a. is_ty_built a ≡ true) types
 
-pub no_match : (a : Expr) (arms : List Arm) → is_expr_built (e.Match a arms) ≡ true → ⊥
-no_match a arms h = let q : is_expr_built (e.Match a arms) ≡ false = rw (fold_out-Expr, e.outs-Match) in off (sym q ∙ h)
+-- ---- parts
 
-pub no_frame : (slots : List Slot) (a : Expr) → is_expr_built (e.Frame slots a) ≡ true → ⊥
-no_frame slots a h = let q : is_expr_built (e.Frame slots a) ≡ false = rw (fold_out-Expr, e.outs-Frame) in off (sym q ∙ h)
+-- no branch is built, and no case
+abbrev IsBuilt : Part Expr Item Arm Case → Type 0
+IsBuilt part = OfPart (λ a. is_expr_built a ≡ true) (λ x. is_item_built x ≡ true) (λ x. ⊥) (λ x. ⊥) part
 
-pub no_alloc : (b : Ty) (n : ℕ) (a : Expr) → is_expr_built (e.Alloc b n a) ≡ true → ⊥
-no_alloc b n a h = let q : is_expr_built (e.Alloc b n a) ≡ false = rw (fold_out-Expr, e.outs-Alloc) in off (sym q ∙ h)
+abbrev pub PartsBuilt : Parts → Type 0
+PartsBuilt parts = OfParts (λ a. is_expr_built a ≡ true) (λ x. is_item_built x ≡ true) (λ x. ⊥) (λ x. ⊥) parts
 
-pub no_cases : (cases : List Case) → is_expr_built (e.Cases cases) ≡ true → ⊥
-no_cases cases h = let q : is_expr_built (e.Cases cases) ≡ false = rw (fold_out-Expr, e.outs-Cases) in off (sym q ∙ h)
+exprs_built : (es : List Expr) → all (map is_expr_built es) ≡ true → PartsBuilt (map Part.expr es)
+exprs_built [] h = tt
+exprs_built (a ∷ es) h = let k = and_parts (is_expr_built a) (all (map is_expr_built es)) h in (k.0, exprs_built es k.1)
 
-pub no_tag_is : (x : List ℕ) (a : Expr) → is_expr_built (e.TagIs x a) ≡ true → ⊥
-no_tag_is x a h = let q : is_expr_built (e.TagIs x a) ≡ false = rw (fold_out-Expr, e.outs-TagIs) in off (sym q ∙ h)
+items_built : (items : List Item) → all (map is_item_built items) ≡ true → PartsBuilt (map Part.item items)
+items_built [] h = tt
+items_built (x ∷ items) h = let k = and_parts (is_item_built x) (all (map is_item_built items)) h in (k.0, items_built items k.1)
 
-pub no_part : (x : List ℕ) (j : ℕ) (a : Expr) → is_expr_built (e.Part x j a) ≡ true → ⊥
-no_part x j a h = let q : is_expr_built (e.Part x j a) ≡ false = rw (fold_out-Expr, e.outs-Part) in off (sym q ∙ h)
+-- ---- forms
 
-pub no_fill : (k : ℕ) (a : Expr) → is_expr_built (e.Fill k a) ≡ true → ⊥
-no_fill k a h = let q : is_expr_built (e.Fill k a) ≡ false = rw (fold_out-Expr, e.outs-Fill) in off (sym q ∙ h)
+pub record FormBuilt (o : Expr-F Expr Item Arm Case) : Type 0 where
+  pub ordinary : role o ≡ Role.ordinary
+  pub arguments : type_arguments o ≡ []
+  pub types : TypesBuilt (written_types o)
+  pub parts : PartsBuilt (parts_of o)
+
+abbrev is_arm_built : Arm → Bool
+is_arm_built = fold-Arm Bool Bool Bool Bool level_built level_item_built level_arm_built level_case_built
+
+abbrev is_case_built : Case → Bool
+is_case_built = fold-Case Bool Bool Bool Bool level_built level_item_built level_arm_built level_case_built
+
+abbrev pub is_layer_built : Expr-F Expr Item Arm Case → Bool
+is_layer_built o = level_built (map_layer is_expr_built is_item_built is_arm_built is_case_built o)
+
+pub layer_is : (x : Expr) (o : Expr-F Expr Item Arm Case) → out-Expr x ≡ o → is_expr_built x ≡ is_layer_built o
+layer_is x o is = fold_out-Expr Bool Bool Bool Bool level_built level_item_built level_arm_built level_case_built x ∙ ap is_layer_built is
+
+form : (o : Expr-F Expr Item Arm Case) → role o ≡ Role.ordinary → type_arguments o ≡ [] → TypesBuilt (written_types o) → PartsBuilt (parts_of o) → FormBuilt o
+form o r a ts ps = record { ordinary = r; arguments = a; types = ts; parts = ps }
+
+layer_built : (o : Expr-F Expr Item Arm Case) → is_layer_built o ≡ true → FormBuilt o
+layer_built (Expr-F.Var x) h = form (Expr-F.Var x) refl refl tt tt
+layer_built Expr-F.Unit h = form Expr-F.Unit refl refl tt tt
+layer_built (Expr-F.Bool b) h = form (Expr-F.Bool b) refl refl tt tt
+layer_built (Expr-F.Num i n) h = form (Expr-F.Num i n) refl refl (int_built i h, tt) tt
+layer_built (Expr-F.Bin o i a b) h =
+    let k = and3 (is_public i) (is_expr_built a) (is_expr_built b) h in form (Expr-F.Bin o i a b) refl refl (int_built i k.0, tt) (k.1, (k.2, tt))
+layer_built (Expr-F.Shift left i a n) h =
+    let k = and3 (is_public i) (is_expr_built a) (is_expr_built n) h in form (Expr-F.Shift left i a n) refl refl (int_built i k.0, tt) (k.1, (k.2, tt))
+layer_built (Expr-F.Cmp o i a b) h =
+    let k = and3 (is_public i) (is_expr_built a) (is_expr_built b) h in form (Expr-F.Cmp o i a b) refl refl (int_built i k.0, tt) (k.1, (k.2, tt))
+layer_built (Expr-F.Not a) h = form (Expr-F.Not a) refl refl tt (h, tt)
+layer_built (Expr-F.Cast i j a) h =
+    let k = and3 (is_public i) (is_public j) (is_expr_built a) h in form (Expr-F.Cast i j a) refl refl (int_built i k.0, (int_built j k.1, tt)) (k.2, tt)
+layer_built (Expr-F.Make x args es) h =
+    let k = and_parts (is_empty args) (all (map is_expr_built es)) h in let none = nothing_listed args k.0 in
+    form (Expr-F.Make x args es) refl none (subst TypesBuilt (sym none) tt) (exprs_built es k.1)
+layer_built (Expr-F.Get y a) h = form (Expr-F.Get y a) refl refl tt (h, tt)
+layer_built (Expr-F.Tab x a) h = form (Expr-F.Tab x a) refl refl tt (h, tt)
+layer_built (Expr-F.If c a b) h =
+    let k = and3 (is_expr_built c) (is_expr_built a) (is_expr_built b) h in form (Expr-F.If c a b) refl refl tt (k.0, (k.1, (k.2, tt)))
+layer_built (Expr-F.Do items a) h =
+    let k = and_parts (all (map is_item_built items)) (is_expr_built a) h in
+    form (Expr-F.Do items a) refl refl tt (each_append IsBuilt (map Part.item items) (Part.expr a ∷ []) (items_built items k.0) (k.1, tt))
+layer_built (Expr-F.While c a) h =
+    let k = and_parts (is_expr_built c) (is_expr_built a) h in form (Expr-F.While c a) refl refl tt (k.0, (k.1, tt))
+layer_built (Expr-F.For x a b c) h =
+    let k = and3 (is_expr_built a) (is_expr_built b) (is_expr_built c) h in form (Expr-F.For x a b c) refl refl tt (k.0, (k.1, (k.2, tt)))
+layer_built (Expr-F.Call x args es) h =
+    let k = and_parts (is_empty args) (all (map is_expr_built es)) h in let none = nothing_listed args k.0 in
+    form (Expr-F.Call x args es) refl none (subst TypesBuilt (sym none) tt) (exprs_built es k.1)
+layer_built (Expr-F.Hide i a) h = absurd (off h)
+layer_built (Expr-F.Con x args es) h = absurd (off h)
+layer_built (Expr-F.Read a i) h = absurd (off h)
+layer_built (Expr-F.Write a i v) h = absurd (off h)
+layer_built (Expr-F.Slice a i n) h = absurd (off h)
+layer_built (Expr-F.Match a arms) h = absurd (off h)
+layer_built (Expr-F.Frame slots a) h = absurd (off h)
+layer_built (Expr-F.Alloc b n a) h = absurd (off h)
+layer_built (Expr-F.Cases cases) h = absurd (off h)
+layer_built (Expr-F.TagIs x a) h = absurd (off h)
+layer_built (Expr-F.Part x j a) h = absurd (off h)
+layer_built (Expr-F.Fill k a) h = absurd (off h)
+
+-- an expression of a form that is built
+pub form_built : (x : Expr) (o : Expr-F Expr Item Arm Case) → out-Expr x ≡ o → is_expr_built x ≡ true → FormBuilt o
+form_built x o is h = layer_built o (sym (layer_is x o is) ∙ h)
+
+-- no expression is built whose form is not
+pub unbuilt : {A : Type 0} (x : Expr) (o : Expr-F Expr Item Arm Case) → out-Expr x ≡ o → is_layer_built o ≡ false → is_expr_built x ≡ true → A
+unbuilt x o is not h = absurd (off (sym not ∙ sym (layer_is x o is) ∙ h))
+
+-- ---- blocks
+
+pub block_built : (items : List Item) (a : Expr) → PartsBuilt (map Part.item items ++ Part.expr a ∷ []) → PartsBuilt (map Part.item items) × (is_expr_built a ≡ true)
+block_built items a h =
+    let last : PartsBuilt (Part.expr a ∷ []) = each_right IsBuilt (map Part.item items) (Part.expr a ∷ []) h in
+    (each_left IsBuilt (map Part.item items) (Part.expr a ∷ []) h, last.0)
+
+pub let_built : (x : List ℕ) (b : Ty) (a : Expr) → is_item_built (item.Let x b a) ≡ true → (is_ty_built b ≡ true) × (is_expr_built a ≡ true)
+let_built x b a h = let is : is_item_built (item.Let x b a) ≡ (is_ty_built b && is_expr_built a) = rw (fold_out-Item, item.outs-Let) refl in
+    and_parts (is_ty_built b) (is_expr_built a) (sym is ∙ h)
+
+pub run_built : (a : Expr) → is_item_built (item.Run a) ≡ true → is_expr_built a ≡ true
+run_built a h = let is : is_item_built (item.Run a) ≡ is_expr_built a = rw (fold_out-Item, item.outs-Run) refl in sym is ∙ h

@@ -1,6 +1,5 @@
 pub mod Arguments
 pub mod Blocks
-pub mod BuiltBodies
 pub mod BuiltFiles
 pub mod BuiltForms
 pub mod BuiltPieces

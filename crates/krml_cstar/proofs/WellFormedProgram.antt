@@ -41,7 +41,7 @@ use Rattle.krml_cstar.proofs.Lookups.{fields_of}
 use Rattle.krml_cstar.proofs.VariableNames.{name_is, number-named}
 use Rattle.krml_cstar.proofs.WellFormedNames.{Fresh, named_is, fresh_none, fresh_one, fresh_both}
 use Rattle.krml_cstar.proofs.WellFormedCode.{Within, TypeFits, declared}
-use Rattle.krml_cstar.proofs.WellFormedParts.{BindsVariable, BindVariables, binds_variables, left, right, part_of}
+use Rattle.krml_cstar.proofs.WellFormedParts.{BindsVariable, BindVariables, binds_variables, left, right, ready}
 use Rattle.krml_cstar.proofs.WellFormedPlaces.{PartFits, Holds, InScope, Scoped, Placed, Places}
 use Rattle.krml_cstar.proofs.WellFormedExpressions.{placed}
 use Rattle.krml_cstar.proofs.WellFormedDefinitions.{each_both, each_apart, each_joined, struct_name, function_name, table_name_is, field_name, DefTyped, def_typed, DefFits, struct_built, fun_built, Among, type_there, parts_there, holds}
@@ -375,7 +375,7 @@ module _ (defs : List Def) (typed : AreWellTyped defs) (each : AllByRecursion (D
         each = parts_there defs p params here.type_fits params_ok b.fields;
         names = params_named params names;
         gives = here.type_fits result result_ok b.gives;
-        body_places = placed p defs here scope body (erased result) body_ok (part_of body b.part (right (bound ++ pieces_of_ty result) (pieces_of body) fit.binds));
+        body_places = placed p defs here scope body (erased result) body_ok (ready body b.part (right (bound ++ pieces_of_ty result) (pieces_of body) fit.binds));
         few = small;
       }
 

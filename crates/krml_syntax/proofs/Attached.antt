@@ -119,7 +119,7 @@ module _ {E I A C : Type 0} (R : E → Type 0) (R' : I → Type 0) (R'' : A → 
 module _ {E I A C : Type 0} (R S T : E → Type 0) (R' S' T' : I → Type 0) (R'' S'' T'' : A → Type 0) (R''' S''' T''' : C → Type 0)
     (k : (x : E) → R x → S x → T x) (k' : (x : I) → R' x → S' x → T' x)
     (k'' : (x : A) → R'' x → S'' x → T'' x) (k''' : (x : C) → R''' x → S''' x → T''' x) where
-  both_parts : (parts : List (Part E I A C)) → OfParts R R' R'' R''' parts → OfParts S S' S'' S''' parts → OfParts T T' T'' T''' parts
+  pub both_parts : (parts : List (Part E I A C)) → OfParts R R' R'' R''' parts → OfParts S S' S'' S''' parts → OfParts T T' T'' T''' parts
   both_parts [] h h' = tt
   both_parts (Part.expr x ∷ parts) h h' = (k x h.0 h'.0, both_parts parts h.1 h'.1)
   both_parts (Part.item x ∷ parts) h h' = (k' x h.0 h'.0, both_parts parts h.1 h'.1)
