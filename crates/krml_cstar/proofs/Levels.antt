@@ -18,7 +18,7 @@ use Rattle.krml_meaning.specs.State.{SourceState, Env}
 use Rattle.krml_meaning.specs.Meaning as src
 use Rattle.krml_meaning.specs.Shape.{HasShape, AllHaveShape}
 use Rattle.krml_meaning.specs.Sound.{Fine}
-use Rattle.krml_meaning.proofs.Bodies.{bodies_proper}
+use Rattle.krml_meaning.proofs.Bodies.{bodies_run}
 use Rattle.krml_meaning.proofs.Lists.{same_answer}
 use Rattle.krml_meaning.proofs.Forms.{CallsSound}
 use Rattle.krml_meaning.proofs.Flat.{value_erased}
@@ -78,7 +78,7 @@ module _ (defs : List Def) (typed : AreWellTyped defs) (built : AreBuilt defs) (
 
   module _ (fits : BodiesFit defs p) where
     pub calls_sound : (levels : ℕ) → CallsSound defs (src.enter defs levels)
-    calls_sound levels = enter_sound defs (facts defs typed) (bodies_proper defs typed (built_can_run defs built)) levels
+    calls_sound levels = enter_sound defs (facts defs typed) (bodies_run defs typed (built_can_run defs built)) levels
 
     -- the bodies do the same where the calls in them do
     body_fits : (calls : src.Calls) (ccalls : tgt.Calls) → CallsSound defs calls → CallsFit defs calls ccalls → CallsFit defs (src.body_of defs calls) (tgt.body_of p ccalls)
@@ -124,4 +124,4 @@ module _ (defs : List Def) (typed : AreWellTyped defs) (built : AreBuilt defs) (
     -- by induction on the levels
     pub enter_fits : (levels : ℕ) → CallsFit defs (src.enter defs levels) (tgt.enter p levels)
     enter_fits levels = (within_both SoundAndFit (src.body_of defs) (tgt.body_of p) ((λ x f types xs s e n oks hs hm. tt), (λ x f fun xs s e q hs hm. refl))
-        (λ calls ccalls h. (called_sound defs (facts defs typed) (bodies_proper defs typed (built_can_run defs built)) calls h.0, body_fits calls ccalls h.0 h.1)) levels).1
+        (λ calls ccalls h. (called_sound defs (facts defs typed) (bodies_run defs typed (built_can_run defs built)) calls h.0, body_fits calls ccalls h.0 h.1)) levels).1

@@ -47,7 +47,7 @@ use Rattle.krml_meaning.proofs.Shapes.{extends_same, extends_then, ShapeIn, shap
 use Rattle.krml_meaning.proofs.Scopes.{Instance}
 use Rattle.krml_meaning.proofs.Files.{facts, each_def}
 use Rattle.krml_meaning.proofs.Levels.{entered, body_sound, enter_sound}
-use Rattle.krml_meaning.proofs.Bodies.{bodies_proper}
+use Rattle.krml_meaning.proofs.Bodies.{bodies_run}
 
 pub width_is : (w u : Width) → same_width w u ≡ true → w ≡ u
 width_is W8 W8 e = refl
@@ -362,9 +362,9 @@ module _ (file : SourceFile) (typed : AreWellTyped file.defs) (can : EachRole (C
       let into = entered file.defs at_args m f.params all.values [] fun.distinct all.shapes in
       let vars : into.vars ≡ b.passed.given = same_answer (params_over f.params all.values []) into.vars b.passed.given into.is all.given in
       let s : SourceState = begin bound b.passed in
-      let proper = bodies_proper file.defs typed can in
+      let runs = bodies_run file.defs typed can in
       let calls = enter file.defs bound.depth in
-      let run = body_sound file.defs fs proper calls (enter_sound file.defs fs proper bound.depth) entry f k.is at_args refl into.vars s into.there all.memory in
+      let run = body_sound file.defs fs runs calls (enter_sound file.defs fs runs bound.depth) entry f k.is at_args refl into.vars s into.there all.memory in
       subst (λ (z : Function). After (Fine file.defs m (at f.vars [] f.result)) (eval file.defs calls z.body (env_of z [] b.passed.given) s)) same
       (subst (λ z. After (Fine file.defs m (at f.vars [] f.result)) (eval file.defs calls fun.body.body (env_of fun.body [] z) s)) vars run)
 

@@ -7,6 +7,7 @@ use Rattle.krml_trace.specs.declared.why.Why.TheVariants.{Undefined}
 use Rattle.krml_syntax.specs.declared.tree.Ty.{Ty}
 use Rattle.krml_syntax.specs.declared.tree.Field.{Field}
 use Rattle.krml_syntax.specs.declared.tree.Def.{Def}
+use Rattle.krml_ast.specs.Pieces.{pieces_of}
 use Rattle.krml_ast.specs.Names.{Signature, fun_named}
 use Rattle.krml_syntax.specs.Types.{erased}
 use Rattle.krml_ast.specs.Typing.{Vars, Scope, look, fields_at, at}
@@ -27,7 +28,8 @@ use Rattle.krml_meaning.proofs.Types.{name_same}
 use Rattle.krml_meaning.proofs.Shapes.{shapes_in}
 use Rattle.krml_meaning.proofs.Scopes.{Instance, here, VarsThere}
 use Rattle.krml_meaning.proofs.Forms.{CallsSound}
-use Rattle.krml_meaning.proofs.Proper.{IsProper}
+use Rattle.krml_meaning.proofs.Runnable.{AllRun}
+use Rattle.krml_meaning.proofs.Zeros.{PartZeros}
 use Rattle.krml_meaning.proofs.Soundness.{sound}
 
 -- the types of the parameters in the scope of a body
@@ -88,12 +90,12 @@ module _ (defs : List Def) (at_args : Instance defs) (m : List Block) where
           (y, ap (value_of vars) (sym ((bytes_eq-Decides p.name x).0 q)) ∙ mine, subst (λ w. HasShape defs m y (here defs at_args w)) (same_some (erased p.ty) a e) shape)
       found vars k mine shape x a false q e = k x a e
 
--- each body is one of those that runs take
-pub record AllProper (defs : List Def) (facts : Facts defs) : Type 0 where
-  pub body : (x : List ℕ) (f : Signature) (e : fun_named defs x ≡ Some f)
-      → IsProper defs f.vars (record { vars = param_vars f.params; frame = None }) (facts.function x f e).body.body (erased f.result) (facts.function x f e).typed
+-- each form in each body can run, and there are the zero values that it takes
+pub record BodiesRun (defs : List Def) (facts : Facts defs) : Type 0 where
+  pub body : (x : List ℕ) (f : Signature) (e : fun_named defs x ≡ Some f) → AllRun defs (pieces_of (facts.function x f e).body.body)
+  pub zeros : PartZeros defs
 
-module _ (defs : List Def) (facts : Facts defs) (proper : AllProper defs facts) where
+module _ (defs : List Def) (facts : Facts defs) (can : BodiesRun defs facts) where
   -- the run of a body on arguments
   pub body_sound : (calls : src.Calls) → CallsSound defs calls → (x : List ℕ) (f : Signature) (e : fun_named defs x ≡ Some f) (at_args : Instance defs) → at_args.tvars ≡ f.vars
       → (vars : Variables) (s : SourceState) → VarsThere defs at_args s.memory vars (param_vars f.params) → MemoryTyped defs s.memory
@@ -104,7 +106,7 @@ module _ (defs : List Def) (facts : Facts defs) (proper : AllProper defs facts) 
       let n = src.meaning defs calls fun.body.body in
       let same : here defs at_args (erased f.result) ≡ at f.vars at_args.targs f.result =
       sym (erased_at at_args.tvars at_args.targs f.result) ∙ ap (λ vs. at vs at_args.targs f.result) tv in
-      let h = (sound defs facts at_args calls hk f.vars tv g fun.body.body (erased f.result) fun.typed (proper.body x f e)).from 0 in
+      let h = (sound defs facts at_args can.zeros calls hk f.vars tv g fun.body.body (erased f.result) fun.typed (can.body x f e)).from 0 in
       subst (λ a. After (Fine defs s.memory a) (n.from 0 (env_of fun.body at_args.targs vars) s)) same
       (h.run (env_of fun.body at_args.targs vars) s (record { tvars = fun.vars ∙ sym tv; targs = refl; vars = there; frame = tt }) hm)
 

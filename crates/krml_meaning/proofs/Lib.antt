@@ -18,7 +18,6 @@ pub mod Lists
 pub mod Memory
 pub mod Numbered
 pub mod Numbers
-pub mod Proper
 pub mod Scopes
 pub mod Shapes
 pub mod Soundness

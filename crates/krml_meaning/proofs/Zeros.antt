@@ -1,5 +1,5 @@
 -- Types of files without type variables have zero values.
-use Rattle.std.proofs.Common.{◌≡◌, ℕ, zero, suc, ◌≤◌, false, List, [], ◌∷◌, ◌++◌, map, length, flat_map, Option, Some, option_map, option_and_then, ◌⊎◌, inl, inr, refl, sym, ap, ◌∙◌, subst, arith, append_assoc, pow_pos}
+use Rattle.std.proofs.Common.{◌≡◌, ℕ, zero, suc, ◌≤◌, false, List, [], ◌∷◌, ◌++◌, map, length, flat_map, Option, Some, option_map, option_and_then, ◌⊎◌, inl, inr, refl, sym, ap, ◌∙◌, subst, arith, append_assoc, pow_pos, Bool, true, if◌then◌else◌, None, slice_get}
 use Rattle.std.specs.List.{AllByRecursion}
 use Rattle.krml_trace.specs.Width.{bits}
 use Rattle.krml_syntax.specs.declared.tree.IntTy.{IntTy}
@@ -9,8 +9,9 @@ use Rattle.krml_syntax.specs.declared.tree.Field.{Field}
 use Rattle.krml_syntax.specs.declared.tree.Con.{Con}
 use Rattle.krml_syntax.specs.declared.tree.Def.{Def}
 use Rattle.krml_syntax.specs.declared.tree.Def.TheVariants as d
-use Rattle.krml_ast.specs.Names.{Composite, Struct, Sum, vars_of, type_here, type_named}
+use Rattle.krml_ast.specs.Names.{Composite, Struct, Sum, vars_of, type_here, type_named, Constructor}
 use Rattle.krml_syntax.specs.Types.{erased, type_at}
+use Rattle.krml_syntax.specs.Shape.{Role}
 use Rattle.krml_ast.specs.IsType.{HoldsBuffer, IsFlat, IsType, AreArguments}
 use Rattle.krml_ast.specs.Typing.{at, fields_at}
 use Rattle.krml_ast.specs.WellTyped.{names_of, WellTyped, AreWellTyped}
@@ -19,13 +20,14 @@ use Rattle.krml_ast.proofs.Earlier.{named_more, named_last}
 use Rattle.krml_ast.proofs.Named.{is_struct, is_sum, struct_stands, sum_stands}
 use Rattle.krml_meaning.specs.declared.value.Value.{Value}
 use Rattle.krml_meaning.specs.declared.value.Value.TheVariants as v
-use Rattle.krml_meaning.specs.Meaning.{all_some, zero_of, zero_in, zero_within}
+use Rattle.krml_meaning.specs.Meaning.{zero_value, all_some, zero_of, zero_in, zero_within}
 use Rattle.krml_meaning.specs.Shape.{HasShape, AllHaveShape}
-use Rattle.krml_meaning.proofs.Lists.{each_get, no_some, each_so, each_among, each_contains}
+use Rattle.krml_meaning.proofs.Lists.{each_get, no_some, each_so, each_among, each_contains, same_some}
+use Rattle.krml_meaning.specs.Sound.{CanRun}
+use Rattle.krml_meaning.proofs.Facts.{InSum}
 use Rattle.krml_syntax.proofs.Types.{erased_bool, erased_unit, erased_int, erased_named, at_none}
 use Rattle.krml_meaning.proofs.Earlier.{Settled, none_settled, flat_more}
 use Rattle.krml_meaning.proofs.Files.{through, new_fields, new_cons, settled_more}
-use Rattle.krml_meaning.proofs.Proper.{HasZero}
 
 abbrev pub NoVars : Def → Type 0
 NoVars def = listed_vars def ≡ []
@@ -39,6 +41,16 @@ no_vars (def ∷ defs) e = let both = apart (listed_vars def) (flat_map listed_v
     apart (x ∷ xs) ys q = absurd (cc)
 
 module _ (defs : List Def) where
+  -- a type has a zero value
+  pub record HasZero (a : Ty) : Type 0 where
+    pub zero : Value
+    pub is : zero_value defs a ≡ Some zero
+    pub shape : HasShape defs [] zero (erased a)
+
+  -- an argument of a constructor has a zero value, where what runs take of asking for it holds
+  abbrev pub PartZeros : Type 0
+  PartZeros = (x : List ℕ) (c : Constructor) (j : ℕ) (b : Ty) → InSum defs x c → slice_get c.args j ≡ Some b → CanRun defs Role.part → (c.vars ≡ []) × HasZero b
+
   -- a zero value with so many levels
   pub record ZeroWithin (n : ℕ) (a : Ty) : Type 0 where
     pub zero : Value
