@@ -1,5 +1,6 @@
 -- In the program of a well typed file each name means what it means in the file.
-use Rattle.std.proofs.Common.{◌≡◌, ℕ, zero, suc, ◌+◌, Bool, true, false, if◌then◌else◌, List, [], ◌∷◌, ◌++◌, take, length, filter, flat_map, Contains, Some, ◌⊎◌, inl, inr, refl, sym, ap, ◌∙◌, subst, arith}
+use Rattle.std.proofs.Common.{◌≡◌, ℕ, zero, suc, ◌+◌, Bool, true, false, if◌then◌else◌, List, [], ◌∷◌, ◌++◌, take, length, filter, flat_map, Contains, Some, None, ◌⊎◌, inl, inr, refl, sym, ap, ◌∙◌, subst, arith}
+use Rattle.std.specs.Option.{option_or}
 use Rattle.std.specs.List.{AllByRecursion}
 use Rattle.std.specs.Str.{bytes_eq}
 use Rattle.std.proofs.lemmas.Slice.Eq.{bytes_eq-Decides}
@@ -126,8 +127,8 @@ module _ (defs : List Def) (x : List ℕ) where
   the_fun [] f fun h e q = absurd (no_some f e)
   the_fun (d.Fun name vars params result body ∷ ds) f fun h e q = go (bytes_eq name x) refl e q (the_fun ds f fun h.1)
     where
-      go : (b : Bool) → bytes_eq name x ≡ b → (if b then Some (record { vars = vars; params = params; result = result }) else fun_named ds x) ≡ Some f
-          → (if b then Some (record { tvars = vars; params = params; body = body }) else src.function_named ds x) ≡ Some fun
+      go : (b : Bool) → bytes_eq name x ≡ b → option_or (if b then Some (record { vars = vars; params = params; result = result }) else None) (fun_named ds x) ≡ Some f
+          → option_or (if b then Some (record { tvars = vars; params = params; body = body }) else None) (src.function_named ds x) ≡ Some fun
           → (fun_named ds x ≡ Some f → src.function_named ds x ≡ Some fun → funs ds ≡ fun_code defs x f.params f.result fun.body ∷ [])
           → (if b then fun_code defs name params result body ∷ funs ds else funs ds) ≡ fun_code defs x f.params f.result fun.body ∷ []
       go true is e' q' later =
@@ -160,7 +161,7 @@ module _ (x : List ℕ) where
   the_struct [] vars fields h e = absurd (no_some (Struct vars fields) e)
   the_struct (d.Struct name vs fs ∷ ds) vars fields h e = go (bytes_eq name x) refl e (the_struct ds vars fields h.1)
     where
-      go : (b : Bool) → bytes_eq name x ≡ b → (if b then Some (Struct vs fs) else type_named ds x) ≡ Some (Struct vars fields)
+      go : (b : Bool) → bytes_eq name x ≡ b → option_or (if b then Some (Struct vs fs) else None) (type_named ds x) ≡ Some (Struct vars fields)
           → (type_named ds x ≡ Some (Struct vars fields) → structs ds ≡ record { name = x; fields = fields_of fields } ∷ [])
           → (if b then record { name = name; fields = fields_of fs } ∷ structs ds else structs ds) ≡ record { name = x; fields = fields_of fields } ∷ []
       go true is e' later =
@@ -170,7 +171,7 @@ module _ (x : List ℕ) where
       go false is e' later = later e'
   the_struct (d.Sum name vs cons ∷ ds) vars fields h e = go (bytes_eq name x) e (the_struct ds vars fields h.1)
     where
-      go : (b : Bool) → (if b then Some (Sum vs cons) else type_named ds x) ≡ Some (Struct vars fields)
+      go : (b : Bool) → option_or (if b then Some (Sum vs cons) else None) (type_named ds x) ≡ Some (Struct vars fields)
           → (type_named ds x ≡ Some (Struct vars fields) → structs ds ≡ record { name = x; fields = fields_of fields } ∷ []) → structs ds ≡ record { name = x; fields = fields_of fields } ∷ []
       go true e' later = absurd (cc)
       go false e' later = later e'
@@ -205,7 +206,7 @@ module _ (x : List ℕ) where
   the_table k j [] t h e = absurd (no_some t e)
   the_table k j (d.Table name i nums ∷ ds) t h e = go (bytes_eq name x) refl e (the_table (suc k) (suc j) ds t h.1)
     where
-      go : (b : Bool) → bytes_eq name x ≡ b → (if b then Some (record { place = k; ty = i; nums = nums }) else src.table_from (suc k) ds x) ≡ Some t
+      go : (b : Bool) → bytes_eq name x ≡ b → option_or (if b then Some (record { place = k; ty = i; nums = nums }) else None) (src.table_from (suc k) ds x) ≡ Some t
           → (src.table_from (suc k) ds x ≡ Some t → FoundAt (suc k) (suc j) ds t) → FoundAt k j (d.Table name i nums ∷ ds) t
       go true q e' later =
           let same : record { place = k; ty = i; nums = nums } ≡ t = same_some (record { place = k; ty = i; nums = nums }) t e' in

@@ -1,5 +1,6 @@
 -- The part of the language that is built: its types, and what its definitions keep.
-use Rattle.std.proofs.Common.{◌≡◌, ℕ, suc, Bool, true, false, not, ◌&&◌, if◌then◌else◌, List, [], ◌∷◌, map, length, Some, refl, sym, ap, ◌∙◌, subst, arith}
+use Rattle.std.proofs.Common.{◌≡◌, ℕ, suc, Bool, true, false, not, ◌&&◌, if◌then◌else◌, List, [], ◌∷◌, map, length, Some, None, refl, sym, ap, ◌∙◌, subst, arith}
+use Rattle.std.specs.Option.{option_or}
 use Rattle.std.specs.List.{AllByRecursion, IsDistinct}
 use Rattle.std.specs.Str.{bytes_eq}
 use Rattle.std.proofs.lemmas.Bool.{eqb-true, and_parts}
@@ -86,7 +87,7 @@ module _ (P : Def → Type 0) where
   at_struct [] x vars fields h e = absurd (no_some (Struct vars fields) e)
   at_struct (d.Struct name vs fs ∷ defs) x vars fields h e = go (bytes_eq name x) refl e (at_struct defs x vars fields h.1)
     where
-      go : (b : Bool) → bytes_eq name x ≡ b → (if b then Some (Struct vs fs) else type_named defs x) ≡ Some (Struct vars fields)
+      go : (b : Bool) → bytes_eq name x ≡ b → option_or (if b then Some (Struct vs fs) else None) (type_named defs x) ≡ Some (Struct vars fields)
           → (type_named defs x ≡ Some (Struct vars fields) → P (d.Struct x vars fields)) → P (d.Struct x vars fields)
       go true q e' later =
           let same = same_struct vs vars fs fields (same_some (Struct vs fs) (Struct vars fields) e') in
@@ -94,7 +95,7 @@ module _ (P : Def → Type 0) where
       go false q e' later = later e'
   at_struct (d.Sum name vs cons ∷ defs) x vars fields h e = go (bytes_eq name x) e (at_struct defs x vars fields h.1)
     where
-      go : (b : Bool) → (if b then Some (Sum vs cons) else type_named defs x) ≡ Some (Struct vars fields)
+      go : (b : Bool) → option_or (if b then Some (Sum vs cons) else None) (type_named defs x) ≡ Some (Struct vars fields)
           → (type_named defs x ≡ Some (Struct vars fields) → P (d.Struct x vars fields)) → P (d.Struct x vars fields)
       go true e' later = absurd (cc)
       go false e' later = later e'
@@ -107,8 +108,8 @@ module _ (P : Def → Type 0) where
   at_function [] x f fun h e q = absurd (no_some f e)
   at_function (d.Fun name vs params result body ∷ defs) x f fun h e q = go (bytes_eq name x) refl e q (at_function defs x f fun h.1)
     where
-      go : (b : Bool) → bytes_eq name x ≡ b → (if b then Some (record { vars = vs; params = params; result = result }) else fun_named defs x) ≡ Some f
-          → (if b then Some (record { tvars = vs; params = params; body = body }) else src.function_named defs x) ≡ Some fun
+      go : (b : Bool) → bytes_eq name x ≡ b → option_or (if b then Some (record { vars = vs; params = params; result = result }) else None) (fun_named defs x) ≡ Some f
+          → option_or (if b then Some (record { tvars = vs; params = params; body = body }) else None) (src.function_named defs x) ≡ Some fun
           → (fun_named defs x ≡ Some f → src.function_named defs x ≡ Some fun → P (d.Fun x f.vars f.params f.result fun.body)) → P (d.Fun x f.vars f.params f.result fun.body)
       go true is e' q' later =
           let same : record { vars = vs; params = params; result = result } ≡ f = same_some (record { vars = vs; params = params; result = result }) f e' in
@@ -126,7 +127,7 @@ module _ (P : Def → Type 0) where
   at_table [] x i h e = absurd (no_some i e)
   at_table (d.Table name ty nums ∷ defs) x i h e = go (bytes_eq name x) refl e (at_table defs x i h.1)
     where
-      go : (b : Bool) → bytes_eq name x ≡ b → (if b then Some ty else table_named defs x) ≡ Some i → (table_named defs x ≡ Some i → (nums : List ℕ) × P (d.Table x i nums))
+      go : (b : Bool) → bytes_eq name x ≡ b → option_or (if b then Some ty else None) (table_named defs x) ≡ Some i → (table_named defs x ≡ Some i → (nums : List ℕ) × P (d.Table x i nums))
           → (nums : List ℕ) × P (d.Table x i nums)
       go true q e' later = (nums, subst (λ z. P (d.Table x z nums)) (same_some ty i e') (subst (λ z. P (d.Table z ty nums)) ((bytes_eq-Decides name x).0 q) h.0))
       go false q e' later = later e'
@@ -142,7 +143,7 @@ pub no_sum : (defs : List Def) → AreBuilt defs → (x : List ℕ) (vars : List
 no_sum [] h x vars cons e = no_some (Sum vars cons) e
 no_sum (d.Struct name vs fs ∷ defs) h x vars cons e = go (bytes_eq name x) e (no_sum defs h.1 x vars cons)
   where
-    go : (b : Bool) → (if b then Some (Struct vs fs) else type_named defs x) ≡ Some (Sum vars cons) → (type_named defs x ≡ Some (Sum vars cons) → ⊥) → ⊥
+    go : (b : Bool) → option_or (if b then Some (Struct vs fs) else None) (type_named defs x) ≡ Some (Sum vars cons) → (type_named defs x ≡ Some (Sum vars cons) → ⊥) → ⊥
     go true e' later = cc
     go false e' later = later e'
 no_sum (d.Sum name vs cs ∷ defs) h x vars cons e = let h0 : false ≡ true = h.0 in cc

@@ -1,5 +1,6 @@
 -- Runs of a program do what those of the file do that it came from.
 use Rattle.std.proofs.Common.{◌≡◌, ℕ, suc, Bool, true, false, ◌&&◌, if◌then◌else◌, List, [], ◌∷◌, length, reverse, flat_map, Option, Some, None, option_and_then, refl, sym, ap, ◌∙◌, subst}
+use Rattle.std.specs.Option.{option_or}
 use Rattle.std.specs.Str.{bytes_eq}
 use Rattle.std.proofs.lemmas.List.{reverse-reverse}
 use Rattle.std.proofs.lemmas.Slice.Eq.{bytes_eq-Decides}
@@ -136,8 +137,8 @@ first_is : (defs : List Def) (x : List ℕ) (ds : List Def) (f : Signature) (fun
 first_is defs x [] f fun e q ans = absurd (no_some f e)
 first_is defs x (d.Fun name vars params result body ∷ ds) f fun e q ans = go (bytes_eq name x) refl e q (λ e' q'. first_is defs x ds f fun e' q' ans)
   where
-    go : (b : Bool) → bytes_eq name x ≡ b → (if b then Some (record { vars = vars; params = params; result = result }) else fun_named ds x) ≡ Some f
-        → (if b then Some (record { tvars = vars; params = params; body = body }) else src.function_named ds x) ≡ Some fun
+    go : (b : Bool) → bytes_eq name x ≡ b → option_or (if b then Some (record { vars = vars; params = params; result = result }) else None) (fun_named ds x) ≡ Some f
+        → option_or (if b then Some (record { tvars = vars; params = params; body = body }) else None) (src.function_named ds x) ≡ Some fun
         → (fun_named ds x ≡ Some f → src.function_named ds x ≡ Some fun → tgt.first_named (flat_map (funs_of defs) ds) x ≡ Some (fun_code defs x f.params f.result fun.body))
         → (if b && tgt.gives_scalar (if is_unit result then None else Some (ctype result)) then Some (fun_code defs name params result body) else tgt.first_named (flat_map (funs_of defs) ds) x)
         ≡ Some (fun_code defs x f.params f.result fun.body)

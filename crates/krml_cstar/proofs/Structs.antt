@@ -1,5 +1,6 @@
 -- Operands in order, and structs: what is made of them, and their fields.
-use Rattle.std.proofs.Common.{◌≡◌, ℕ, ◌≤◌, ◌^◌, Bool, true, false, if◌then◌else◌, List, [], ◌∷◌, ◌++◌, map, length, Some, refl, sym, ap, ◌∙◌, subst, arith}
+use Rattle.std.proofs.Common.{◌≡◌, ℕ, ◌≤◌, ◌^◌, Bool, true, false, if◌then◌else◌, List, [], ◌∷◌, ◌++◌, map, length, Some, None, refl, sym, ap, ◌∙◌, subst, arith}
+use Rattle.std.specs.Option.{option_or}
 use Rattle.std.specs.List.{AllByRecursion, IsDistinct}
 use Rattle.std.specs.Str.{bytes_eq}
 use Rattle.std.proofs.lemmas.Bool.{and_parts}
@@ -60,7 +61,7 @@ pub field_among : (P : Ty → Type 0) (fields : List Field) (y : List ℕ) (b : 
 field_among P [] y b h e = absurd (no_some b e)
 field_among P (f ∷ fields) y b h e = go (bytes_eq f.name y) e (field_among P fields y b h.1)
   where
-    go : (same : Bool) → (if same then Some f.ty else field_named fields y) ≡ Some b → (field_named fields y ≡ Some b → P b) → P b
+    go : (same : Bool) → option_or (if same then Some f.ty else None) (field_named fields y) ≡ Some b → (field_named fields y ≡ Some b → P b) → P b
     go true q later = subst P (same_some f.ty b q) h.0
     go false q later = later q
 
@@ -180,7 +181,7 @@ module _ (defs : List Def) (p : CProgram) (calls : tgt.Calls) where
         let both = and_parts (is_ty_built f.ty) (are_fields_built fields) built in
         go both.0 (bytes_eq f.name y) refl e q (one_named fields xs y b w d.1 both.1)
       where
-        go : is_ty_built f.ty ≡ true → (same : Bool) → bytes_eq f.name y ≡ same → (if same then Some f.ty else field_named fields y) ≡ Some b
+        go : is_ty_built f.ty ≡ true → (same : Bool) → bytes_eq f.name y ≡ same → option_or (if same then Some f.ty else None) (field_named fields y) ≡ Some b
             → (if same then Some x else src.field_of (names_of fields) xs y) ≡ Some w
             → (field_named fields y ≡ Some b → src.field_of (names_of fields) xs y ≡ Some w
             → tgt.fields_named (fields_of fields) (images_at defs xs (param_types fields)) y ≡ image_at defs w b ∷ [])

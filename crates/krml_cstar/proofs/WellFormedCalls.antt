@@ -1,6 +1,7 @@
 -- The code of structs, tables and calls is well formed, where that of their parts is.
 use Rattle.std.proofs.Common.{◌≡◌, ℕ, suc, ◌+◌, ◌<◌, ◌^◌, Bool, true, false, if◌then◌else◌, List, [], ◌∷◌, map, Contains, Some, None, refl, sym, ap, ◌∙◌, subst, arith}
 use Rattle.std.proofs.lemmas.Slice.Eq.{bytes_eq-Decides}
+use Rattle.std.specs.Option.{option_or}
 use Rattle.std.specs.List.{AllByRecursion}
 use Rattle.std.specs.Str.{bytes_eq}
 use Rattle.krml_syntax.specs.declared.tree.IntTy.{IntTy}
@@ -141,7 +142,7 @@ module _ (p : CProgram) where
       here : CVar
       here = record { ty = ctype f.ty; name = f.name }
 
-      go : (d : Bool) → bytes_eq f.name y ≡ d → (if d then Some f.ty else field_named fields y) ≡ Some b → (field_named fields y ≡ Some b → FieldFound fields y b) → FieldFound (f ∷ fields) y b
+      go : (d : Bool) → bytes_eq f.name y ≡ d → option_or (if d then Some f.ty else None) (field_named fields y) ≡ Some b → (field_named fields y ≡ Some b → FieldFound fields y b) → FieldFound (f ∷ fields) y b
       go true q k later =
           let name : f.name ≡ y = (bytes_eq-Decides f.name y).0 q in
           let ty : f.ty ≡ b = same_some f.ty b k in

@@ -2,6 +2,7 @@
 use Rattle.std.proofs.Common.{◌≡◌, ℕ, ◌<◌, ◌^◌, Bool, true, false, ◌&&◌, if◌then◌else◌, List, [], ◌∷◌, ◌++◌, map, flat_map, codes, Contains, Some, None, refl, sym, ap, ◌∙◌, subst, inl, inr, append_assoc}
 use Rattle.std.proofs.lemmas.Bool.{and_parts}
 use Rattle.std.proofs.lemmas.Slice.Eq.{bytes_eq-Decides}
+use Rattle.std.specs.Option.{option_or}
 use Rattle.std.specs.Fmt.{decimal}
 use Rattle.std.specs.List.{AllByRecursion}
 use Rattle.std.specs.Str.{bytes_eq}
@@ -150,7 +151,7 @@ struct_there defs (d.Struct name vars fields ∷ ds) x c h e = go (bytes_eq name
     s : CStruct
     s = record { name = name; fields = fields_of fields }
 
-    go : (b : Bool) → bytes_eq name x ≡ b → (if b then Some (Struct vars fields) else type_named ds x) ≡ Some c → (type_named ds x ≡ Some c → StructThere (flat_map structs_of ds) x c)
+    go : (b : Bool) → bytes_eq name x ≡ b → option_or (if b then Some (Struct vars fields) else None) (type_named ds x) ≡ Some c → (type_named ds x ≡ Some c → StructThere (flat_map structs_of ds) x c)
         → StructThere (s ∷ flat_map structs_of ds) x c
     go true q k more =
         let same : name ≡ x = (bytes_eq-Decides name x).0 q in
@@ -211,7 +212,7 @@ module _ (defs : List Def) where
       here : StructDef x vs fs
       here = record { values = h.0.typed; built = (struct_built name vs fs h.0.built).1; shapes = h.0.fields }
 
-      go : (b : Bool) → (if b then Some (Struct vs fs) else type_named ds x) ≡ Some (Struct vars fields) → (type_named ds x ≡ Some (Struct vars fields) → StructDef x vars fields) → StructDef x vars fields
+      go : (b : Bool) → option_or (if b then Some (Struct vs fs) else None) (type_named ds x) ≡ Some (Struct vars fields) → (type_named ds x ≡ Some (Struct vars fields) → StructDef x vars fields) → StructDef x vars fields
       go true k more =
           let same : fs ≡ fields = cc in
           let same' : vs ≡ vars = cc in
@@ -237,7 +238,7 @@ module _ (defs : List Def) where
       table : CTable
       table = record { name = name; width = j.width; nums = nums }
 
-      go : (b : Bool) → bytes_eq name x ≡ b → (if b then Some j else table_named ds x) ≡ Some i → (table_named ds x ≡ Some i → TableThere (flat_map tables_of ds) x i)
+      go : (b : Bool) → bytes_eq name x ≡ b → option_or (if b then Some j else None) (table_named ds x) ≡ Some i → (table_named ds x ≡ Some i → TableThere (flat_map tables_of ds) x i)
           → TableThere (table ∷ flat_map tables_of ds) x i
       go true q k more =
           let same : name ≡ x = (bytes_eq-Decides name x).0 q in
@@ -269,7 +270,7 @@ module _ (defs : List Def) where
       here : FunThere (fun ∷ rest) name (record { vars = vs; params = params; result = result })
       here = record { body = body; there = contains_first fun rest; typed = h.0.typed; built = fun_built name vs params result body h.0.built; shape = h.0.funs.0 }
 
-      go : (b : Bool) → bytes_eq name x ≡ b → (if b then Some (record { vars = vs; params = params; result = result }) else fun_named ds x) ≡ Some f → (fun_named ds x ≡ Some f → FunThere rest x f)
+      go : (b : Bool) → bytes_eq name x ≡ b → option_or (if b then Some (record { vars = vs; params = params; result = result }) else None) (fun_named ds x) ≡ Some f → (fun_named ds x ≡ Some f → FunThere rest x f)
           → FunThere (fun ∷ rest) x f
       go true q k more =
           subst (λ z. FunThere (fun ∷ rest) x z) (same_some (record { vars = vs; params = params; result = result }) f k)

@@ -1,7 +1,9 @@
 -- What names mean among the first definitions of a file, by the places of the names.
 use Rattle.std.proofs.Common.{◌≡◌, ℕ, zero, suc, nat_lt, Bool, true, false, ◌&&◌, ◌||◌, ◌==◌, if◌then◌else◌, List, [], ◌∷◌, length, take, Option, Some, None, option_map, refl, sym, ap, ◌∙◌, arith}
+use Rattle.std.specs.Option.{option_or}
 use Rattle.std.specs.Str.{bytes_eq}
 use Rattle.std.proofs.lemmas.Bool.{ltb-true, ltb-false, lt-ltb, le-ltb}
+use Rattle.krml_trace.proofs.First.{place_next}
 use Rattle.krml_syntax.specs.declared.tree.Def.{Def}
 use Rattle.krml_syntax.specs.declared.tree.Def.TheVariants as d
 use Rattle.krml_ast.specs.Names.{Composite, Struct, Sum, type_named, vars_of, vars_named}
@@ -35,7 +37,8 @@ given_in : (names : Def → List (List ℕ)) (defs : List Def) (i : ℕ) (x : Li
 given_in names [] zero x = refl
 given_in names [] (suc i) x = refl
 given_in names (def ∷ defs) zero x = sym (none_before (place_in names (def ∷ defs) x))
-given_in names (def ∷ defs) (suc i) x = go (is_among (names def) x) (given_in names defs i x ∙ sym (one_more (place_in names defs x) i))
+given_in names (def ∷ defs) (suc i) x =
+    go (is_among (names def) x) (given_in names defs i x ∙ sym (one_more (place_in names defs x) i)) ∙ ap (λ o. is_before o (suc i)) (sym (place_next (λ def. is_among (names def) x) def defs))
   where
     go : (b : Bool) → is_given names (take i defs) x ≡ is_before (option_map suc (place_in names defs x)) (suc i)
         → (b || is_given names (take i defs) x) ≡ is_before (if b then Some 0 else option_map suc (place_in names defs x)) (suc i)
@@ -54,15 +57,15 @@ named_before (def ∷ defs) zero x = refl
 named_before (d.Struct name vars fields ∷ defs) (suc i) x = go (bytes_eq name x) (named_before defs i x)
   where
     go : (b : Bool) → type_named (take i defs) x ≡ (if is_given type_name (take i defs) x then type_named defs x else None)
-        → (if b then Some (Struct vars fields) else type_named (take i defs) x)
-        ≡ (if ((b || false) || is_given type_name (take i defs) x) then (if b then Some (Struct vars fields) else type_named defs x) else None)
+        → (option_or (if b then Some (Struct vars fields) else None) (type_named (take i defs) x))
+        ≡ (if ((b || false) || is_given type_name (take i defs) x) then (option_or (if b then Some (Struct vars fields) else None) (type_named defs x)) else None)
     go true later = refl
     go false later = later
 named_before (d.Sum name vars cons ∷ defs) (suc i) x = go (bytes_eq name x) (named_before defs i x)
   where
     go : (b : Bool) → type_named (take i defs) x ≡ (if is_given type_name (take i defs) x then type_named defs x else None)
-        → (if b then Some (Sum vars cons) else type_named (take i defs) x)
-        ≡ (if ((b || false) || is_given type_name (take i defs) x) then (if b then Some (Sum vars cons) else type_named defs x) else None)
+        → (option_or (if b then Some (Sum vars cons) else None) (type_named (take i defs) x))
+        ≡ (if ((b || false) || is_given type_name (take i defs) x) then (option_or (if b then Some (Sum vars cons) else None) (type_named defs x)) else None)
     go true later = refl
     go false later = later
 named_before (d.Table name ty nums ∷ defs) (suc i) x = named_before defs i x

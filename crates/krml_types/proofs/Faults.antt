@@ -6,9 +6,11 @@ use Rattle.std.specs.Str.{bytes_eq}
 use Rattle.krml_trace.proofs.Lists.{take_front, at_front}
 use Rattle.krml_syntax.specs.declared.tree.Field.{Field}
 use Rattle.krml_syntax.specs.declared.tree.Def.{Def}
-use Rattle.krml_ast.specs.Names.{Struct, Sum, type_named}
+use Rattle.krml_syntax.specs.declared.tree.Def.TheVariants as d
+use Rattle.krml_ast.specs.Names.{Struct, Sum, type_here, type_named}
 use Rattle.krml_ast.specs.IsType.{IsValue, IsType}
 use Rattle.krml_ast.specs.WellTyped.{WellTyped, IsWellTyped, AreWellTyped}
+use Rattle.krml_ast.proofs.Named.{is_struct}
 use Rattle.krml_ast.proofs.Earlier.{Settled, none_settled, named_last, type_more}
 use Rattle.krml_types.specs.Definitions.{well_typed}
 use Rattle.krml_types.specs.Check.{fault_from, first_fault, IsFirstFault}
@@ -21,35 +23,17 @@ all_at P [] x all (k, l, e) = absurd (omega (arith, l))
 all_at P (y ∷ xs) x all (zero, l, e) = subst P e all.0
 all_at P (y ∷ xs) x all (suc k, l, e) = all_at P xs x all.1 (k, omega (arith, l), e)
 
-same_struct : (vars vars' : List (List ℕ)) (fields fields' : List Field) → Some (Struct vars fields) ≡ Some (Struct vars' fields') → (vars ≡ vars') × (fields ≡ fields')
-same_struct vars vars' fields fields' e = (cc, cc)
-
-new_fields : (defs before : List Def) (def : Def) (x : List ℕ) (vars : List (List ℕ)) (fields : List Field) (f : Field)
-    → WellTyped defs before def → type_named (def ∷ []) x ≡ Some (Struct vars fields) → Contains fields f → IsType before vars f.ty
-new_fields defs before def x vars fields f (WellTyped.struct {x = y} {vars = vars'} {fields = fields'} new vs fs ok) is has = go (bytes_eq y x) is
-  where
-    go : (b : Bool) → (if b then Some (Struct vars' fields') else None) ≡ Some (Struct vars fields) → IsType before vars f.ty
-    go true e =
-        let same = same_struct vars' vars fields' fields e in
-        let one : IsType before vars' f.ty × IsValue f.ty = all_at (λ g. IsType before vars' g.ty × IsValue g.ty) fields' f ok (subst (λ z. Contains z f) (sym same.1) has) in
-        subst (λ z. IsType before z f.ty) same.0 one.0
-    go false e = absurd (cc)
-new_fields defs before def x vars fields f (WellTyped.sum {x = y} {vars = vars'} {cons = cons} new cs vs ok) is has = go (bytes_eq y x) is
-  where
-    go : (b : Bool) → (if b then Some (Sum vars' cons) else None) ≡ Some (Struct vars fields) → IsType before vars f.ty
-    go true e = absurd (cc)
-    go false e = absurd (cc)
-new_fields defs before def x vars fields f (WellTyped.table new ok) is has = absurd (cc)
-new_fields defs before def x vars fields f (WellTyped.fun new vs ps ok r res b) is has = absurd (cc)
-new_fields defs before def x vars fields f (WellTyped.entry new is' none ps ans) is has = absurd (cc)
+new_fields : (defs before : List Def) (x : List ℕ) (vars : List (List ℕ)) (fields : List Field) (f : Field)
+    → WellTyped defs before (d.Struct x vars fields) → Contains fields f → IsType before vars f.ty
+new_fields defs before x vars fields f (WellTyped.struct new vs fs ok) has = (all_at (λ g. IsType before vars g.ty × IsValue g.ty) fields f ok has).0
 
 settled_more : (defs before : List Def) (def : Def) → Settled before → WellTyped defs before def → Settled (before ++ def ∷ [])
 settled_more defs before def s w = record { fields = λ x vars fields f is has. go x vars fields f has (named_last before def x (Struct vars fields) is) }
   where
     go : (x : List ℕ) (vars : List (List ℕ)) (fields : List Field) (f : Field) → Contains fields f
-        → (type_named before x ≡ Some (Struct vars fields)) ⊎ (type_named (def ∷ []) x ≡ Some (Struct vars fields)) → IsType (before ++ def ∷ []) vars f.ty
+        → (type_named before x ≡ Some (Struct vars fields)) ⊎ (type_here x def ≡ Some (Struct vars fields)) → IsType (before ++ def ∷ []) vars f.ty
     go x vars fields f has (inl is) = type_more before (def ∷ []) s f.ty vars (s.fields x vars fields f is has)
-    go x vars fields f has (inr is) = type_more before (def ∷ []) s f.ty vars (new_fields defs before def x vars fields f w is has)
+    go x vars fields f has (inr is) = type_more before (def ∷ []) s f.ty vars (new_fields defs before x vars fields f (subst (WellTyped defs before) (is_struct x vars fields def is) w) has)
 
 -- ---- places
 

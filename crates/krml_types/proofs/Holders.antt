@@ -1,10 +1,12 @@
 -- The structs that are set in the end are those that hold buffers.
 use Rattle.std.proofs.Common.{◌≡◌, ℕ, zero, suc, ◌+◌, ◌-◌, ◌<◌, ◌≤◌, Bool, true, false, ◌||◌, if◌then◌else◌, List, [], ◌∷◌, ◌++◌, map, length, slice_get, drop, ◌⊎◌, inl, inr, Option, Some, None, option_map, refl, sym, ap, ◌∙◌, subst, arith, append_assoc}
+use Rattle.std.specs.Option.{option_or}
 use Rattle.std.specs.Bool.{Decides}
 use Rattle.std.specs.List.{Contains}
 use Rattle.std.specs.Str.{bytes_eq}
 use Rattle.std.proofs.lemmas.Bool.{and_parts}
 use Rattle.std.proofs.lemmas.List.{length-map, length_push}
+use Rattle.krml_trace.proofs.First.{place_next}
 use Rattle.krml_trace.proofs.Lists.{contains_first, contains_later}
 use Rattle.krml_syntax.specs.declared.tree.Ty.{Ty, out-Ty, roll-Ty, roll-out-Ty}
 use Rattle.krml_syntax.specs.declared.tree.Ty.TheOpen.{Ty-F}
@@ -16,7 +18,8 @@ use Rattle.krml_syntax.specs.Read.{◌>>=◌}
 use Rattle.krml_ast.specs.Names.{Struct, Sum, type_named, struct_of, struct_named}
 use Rattle.krml_ast.specs.IsType.{HoldsBuffer}
 use Rattle.krml_ast.specs.declared.kind.NameKind.TheVariants as k
-use Rattle.krml_ast.specs.Places.{place_of}
+use Rattle.krml_ast.specs.WellTyped.{type_name}
+use Rattle.krml_ast.specs.Places.{is_among, place_of}
 use Rattle.krml_types.specs.declared.part.Part.{Part}
 use Rattle.krml_types.specs.declared.part.Part.TheVariants as part
 use Rattle.krml_types.specs.Holds.{is_set, holds_in, holds_by, any_holds, def_holds, set_more, struct_place, at_place, part_in, parts_of, parts_in, or_false, part_holds, any_part, round, rounds, same_bool, same_table, none_set, holders, swept}
@@ -171,20 +174,22 @@ one_later None p = refl
 -- the place of a struct is the first place of its name
 pub struct_place_is : (defs : List Def) (x : List ℕ) → struct_place defs x ≡ (struct_named defs x >>= λ s. place_of k.Type defs x)
 struct_place_is [] x = refl
-struct_place_is (def ∷ defs) x = by_def def (ap (option_map suc) (struct_place_is defs x) ∙ one_later (struct_named defs x) (place_of k.Type defs x))
+struct_place_is (def ∷ defs) x =
+    by_def def (ap (option_map suc) (struct_place_is defs x) ∙ one_later (struct_named defs x) (place_of k.Type defs x))
+    ∙ ap (λ o. struct_named (def ∷ defs) x >>= λ s. o) (sym (place_next (λ def. is_among (type_name def) x) def defs))
   where
     by_def : (def : Def) → option_map suc (struct_place defs x) ≡ (struct_named defs x >>= λ s. option_map suc (place_of k.Type defs x))
-        → struct_place (def ∷ defs) x ≡ (struct_named (def ∷ defs) x >>= λ s. place_of k.Type (def ∷ defs) x)
+        → struct_place (def ∷ defs) x ≡ (struct_named (def ∷ defs) x >>= λ s. if is_among (type_name def) x then Some 0 else option_map suc (place_of k.Type defs x))
     by_def (d.Struct name vars fields) later = go (bytes_eq name x)
       where
         go : (c : Bool) → (if c then Some 0 else option_map suc (struct_place defs x))
-            ≡ (((if c then Some (Struct vars fields) else type_named defs x) >>= struct_of) >>= λ s. if (c || false) then Some 0 else option_map suc (place_of k.Type defs x))
+            ≡ (((option_or (if c then Some (Struct vars fields) else None) (type_named defs x)) >>= struct_of) >>= λ s. if (c || false) then Some 0 else option_map suc (place_of k.Type defs x))
         go true = refl
         go false = later
     by_def (d.Sum name vars cons) later = go (bytes_eq name x)
       where
         go : (c : Bool) → (if c then None else option_map suc (struct_place defs x))
-            ≡ (((if c then Some (Sum vars cons) else type_named defs x) >>= struct_of) >>= λ s. if (c || false) then Some 0 else option_map suc (place_of k.Type defs x))
+            ≡ (((option_or (if c then Some (Sum vars cons) else None) (type_named defs x)) >>= struct_of) >>= λ s. if (c || false) then Some 0 else option_map suc (place_of k.Type defs x))
         go true = refl
         go false = later
     by_def (d.Table name ty nums) later = later
@@ -406,7 +411,7 @@ module _ (defs : List Def) where
       go : (c : Bool) → (if c then (b || test (d.Struct name vars fields)) else is_set ds (set_more test ds ts) x) ≡ true
           → (is_set ds (set_more test ds ts) x ≡ true → (is_set ds ts x ≡ true) ⊎ Now test ds x)
           → ((if c then b else is_set ds ts x) ≡ true) ⊎
-          ((name' : List ℕ) × (vars' : List (List ℕ)) × (fields' : List Field) × ((if c then Some (Struct vars fields) else type_named ds x) ≡ Some (Struct vars' fields')) × (test (d.Struct name' vars' fields') ≡ true))
+          ((name' : List ℕ) × (vars' : List (List ℕ)) × (fields' : List Field) × (option_or (if c then Some (Struct vars fields) else None) (type_named ds x) ≡ Some (Struct vars' fields')) × (test (d.Struct name' vars' fields') ≡ true))
       go true k later = both (either b (test (d.Struct name vars fields)) k)
         where
           both : (b ≡ true) ⊎ (test (d.Struct name vars fields) ≡ true) → (b ≡ true) ⊎
@@ -419,7 +424,7 @@ module _ (defs : List Def) where
       go : (c : Bool) → (if c then false else is_set ds (set_more test ds ts) x) ≡ true
           → (is_set ds (set_more test ds ts) x ≡ true → (is_set ds ts x ≡ true) ⊎ Now test ds x)
           → ((if c then false else is_set ds ts x) ≡ true) ⊎
-          ((name' : List ℕ) × (vars' : List (List ℕ)) × (fields' : List Field) × ((if c then Some (Sum vars cons) else type_named ds x) ≡ Some (Struct vars' fields')) × (test (d.Struct name' vars' fields') ≡ true))
+          ((name' : List ℕ) × (vars' : List (List ℕ)) × (fields' : List Field) × (option_or (if c then Some (Sum vars cons) else None) (type_named ds x) ≡ Some (Struct vars' fields')) × (test (d.Struct name' vars' fields') ≡ true))
       go true k later = absurd (cc)
       go false k later = later k
   was_or_now test (d.Table name ty nums ∷ ds) (b ∷ ts) x h = was_or_now test ds ts x h
@@ -468,13 +473,13 @@ module _ (defs : List Def) where
       parts : ((b || test (d.Struct name vars' fields')) ≡ b) × (set_more test ds ts ≡ ts)
       parts = set_head (b || test (d.Struct name vars' fields')) b (set_more test ds ts) ts e
 
-      go : (c : Bool) → (if c then Some (Struct vars' fields') else type_named ds x) ≡ Some (Struct vars fields)
+      go : (c : Bool) → option_or (if c then Some (Struct vars' fields') else None) (type_named ds x) ≡ Some (Struct vars fields)
           → (type_named ds x ≡ Some (Struct vars fields) → is_set ds ts x ≡ true) → (if c then b else is_set ds ts x) ≡ true
       go true k later = has_to_be b (test (d.Struct name vars' fields')) parts.0 (let hn = h name in cc)
       go false k later = later k
   stays_set test (d.Sum name vars' cons ∷ ds) (b ∷ ts) x vars fields q e is h = go (bytes_eq name x) is (λ k. stays_set test ds ts x vars fields (omega (arith, q)) (set_head (b || test (d.Sum name vars' cons)) b (set_more test ds ts) ts e).1 k h)
     where
-      go : (c : Bool) → (if c then Some (Sum vars' cons) else type_named ds x) ≡ Some (Struct vars fields)
+      go : (c : Bool) → option_or (if c then Some (Sum vars' cons) else None) (type_named ds x) ≡ Some (Struct vars fields)
           → (type_named ds x ≡ Some (Struct vars fields) → is_set ds ts x ≡ true) → (if c then false else is_set ds ts x) ≡ true
       go true k later = absurd (cc)
       go false k later = later k

@@ -1,6 +1,7 @@
 -- Structs, constructors and functions at type arguments, by numbers of types.
 use Prim.Native.Nat.{zero, suc}
 use Rattle.std.proofs.Common.{◌≡◌, ℕ, ◌+◌, ◌<◌, Bool, true, false, not, if◌then◌else◌, List, [], ◌∷◌, map, length, get_or, drop, slice_get, option_map, is_some, Option, Some, None, Result, Ok, Err, refl, sym, ap, subst, ◌∙◌}
+use Rattle.std.specs.Option.{option_or}
 use Rattle.std.specs.Bool.{Decides}
 use Rattle.std.specs.Str.{bytes_eq}
 use Rattle.std.specs.Result.{IsErrAnd}
@@ -259,7 +260,7 @@ field_placed (f ∷ fields) y = go (field_placed fields y) (bytes_eq f.name y)
     later (Some j) = refl
 
     go : field_named fields y ≡ (place_in fields y >>= λ j. slice_get fields j >>= λ g. Some g.ty) → (b : Bool)
-        → (if b then Some f.ty else field_named fields y) ≡ ((if b then Some 0 else option_map suc (place_in fields y)) >>= λ j. slice_get (f ∷ fields) j >>= λ g. Some g.ty)
+        → option_or (if b then Some f.ty else None) (field_named fields y) ≡ ((if b then Some 0 else option_map suc (place_in fields y)) >>= λ j. slice_get (f ∷ fields) j >>= λ g. Some g.ty)
     go rest true = refl
     go rest false = rest ∙ later (place_in fields y)
 
