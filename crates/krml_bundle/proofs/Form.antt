@@ -1,5 +1,6 @@
 -- A hoisted file under the new names has the form of a bundled one.
 use Rattle.std.proofs.Common.{◌≡◌, ℕ, suc, Bool, true, false, List, [], ◌∷◌, ◌++◌, if◌then◌else◌, map, flat_map, take, codes, Some, None, slice_get, Contains, bytes_eq, refl, sym, ap, ◌∙◌, subst, append-nil, append_assoc}
+use Rattle.std.specs.Option.{option_or}
 use Rattle.std.specs.List.{AllByRecursion, IsDistinct}
 use Rattle.std.proofs.lemmas.List.Concat.{flat_map-append}
 use Rattle.std.proofs.lemmas.List.Elements.{Contains-append_left, Contains-push}
@@ -66,7 +67,7 @@ entries_named (d.Fun y vars params result body ∷ defs) x = entries_named defs 
 entries_named (d.Entry y ∷ defs) x = go (bytes_eq y x) refl (entries_named defs x)
   where
     go : (b : Bool) → bytes_eq y x ≡ b → emitted_name (of_all defs) x ≡ (if has_entry defs x then Some (emitted_fun x) else None)
-        → (if b then Some (emitted_fun y) else emitted_name (of_all defs) x) ≡ (if (if b then true else has_entry defs x) then Some (emitted_fun x) else None)
+        → option_or (if b then Some (emitted_fun y) else None) (emitted_name (of_all defs) x) ≡ (if (if b then true else has_entry defs x) then Some (emitted_fun x) else None)
     go true e h = ap (λ z. Some (emitted_fun z)) ((bytes_eq-Decides y x).0 e)
     go false e h = h
 

@@ -4,6 +4,7 @@ use Rattle.std.specs.List.{IsDistinct}
 use Rattle.std.proofs.lemmas.List.{map-append}
 use Rattle.std.proofs.lemmas.Option.{slice_get-map}
 use Rattle.krml_trace.specs.declared.width.Width.TheVariants.{W32}
+use Rattle.krml_trace.proofs.First.{first_map, first_same, first_moved, map_if}
 use Rattle.krml_syntax.specs.declared.tree.IntTy.{IntTy}
 use Rattle.krml_syntax.specs.declared.tree.Ty.{Ty}
 use Rattle.krml_syntax.specs.declared.tree.Ty.TheVariants as t
@@ -17,7 +18,7 @@ use Rattle.krml_syntax.specs.declared.tree.Item.{Item}
 use Rattle.krml_syntax.specs.declared.tree.Expr.{Expr}
 use Rattle.krml_syntax.specs.declared.tree.Def.{Def}
 use Rattle.krml_syntax.specs.declared.tree.Def.TheVariants as d
-use Rattle.krml_ast.specs.Names.{Struct, Constructor, Signature, con_in, con_or, con_named, table_named, fun_named, field_named}
+use Rattle.krml_ast.specs.Names.{Struct, Constructor, Signature, args_here, con_in, con_from, con_here, con_named, table_here, table_named, fun_here, fun_named, field_here, field_named}
 use Rattle.krml_syntax.specs.Types.{erased, int_ty, u32}
 use Rattle.krml_ast.specs.Typing.{Vars, look, Scope, with_vars, in_loop, in_frame, at, fields_at, IsResult, Matches, MatchAll, AreDistinct, HasType, AllHaveType, ArmsHaveType, ItemsLead, CasesHaveType}
 use Rattle.krml_bundle.specs.Emitted.{emitted_fun, emitted_type, emitted_table, emitted_field}
@@ -33,45 +34,49 @@ abbrev pub constructor_bundled : Constructor → Constructor
 constructor_bundled c = record { sum = emitted_type c.sum; vars = c.vars; args = map ty_bundled c.args }
 
 con_in_bundled : (cons : List Con) (x : List ℕ) → con_in (map con_bundled cons) x ≡ option_map (map ty_bundled) (con_in cons x)
-con_in_bundled [] x = refl
-con_in_bundled (c ∷ cons) x = first_bundled (map ty_bundled) (bytes_eq c.name x) c.args _ _ (con_in_bundled cons x)
+con_in_bundled cons x = first_moved con_bundled (map ty_bundled) (args_here x) (args_here x) (λ c. map_if (map ty_bundled) (bytes_eq c.name x) c.args) cons
 
-pub con_named_bundled : (defs : List Def) (x : List ℕ) → con_named (map def_bundled defs) x ≡ option_map constructor_bundled (con_named defs x)
-con_named_bundled [] x = refl
-con_named_bundled (d.Struct name vars fields ∷ defs) x = con_named_bundled defs x
-con_named_bundled (d.Sum name vars cons ∷ defs) x = rw (con_in_bundled cons x, con_named_bundled defs x) (go (con_in cons x))
+con_here_bundled : (x : List ℕ) (def : Def) → con_here x (def_bundled def) ≡ option_map constructor_bundled (con_here x def)
+con_here_bundled x (d.Sum name vars cons) = rw (con_in_bundled cons x) (go (con_in cons x))
   where
-    go : (o : Option (List Ty)) → con_or (emitted_type name) vars (option_map (map ty_bundled) o) (option_map constructor_bundled (con_named defs x))
-        ≡ option_map constructor_bundled (con_or name vars o (con_named defs x))
+    go : (o : Option (List Ty)) → option_map (con_from (emitted_type name) vars) (option_map (map ty_bundled) o) ≡ option_map constructor_bundled (option_map (con_from name vars) o)
     go (Some args) = refl
     go None = refl
-con_named_bundled (d.Table name i nums ∷ defs) x = con_named_bundled defs x
-con_named_bundled (d.Fun name vars params result body ∷ defs) x = con_named_bundled defs x
-con_named_bundled (d.Entry name ∷ defs) x = con_named_bundled defs x
+con_here_bundled x (d.Struct name vars fields) = refl
+con_here_bundled x (d.Table name i nums) = refl
+con_here_bundled x (d.Fun name vars params result body) = refl
+con_here_bundled x (d.Entry name) = refl
+
+pub con_named_bundled : (defs : List Def) (x : List ℕ) → con_named (map def_bundled defs) x ≡ option_map constructor_bundled (con_named defs x)
+con_named_bundled defs x = first_moved def_bundled constructor_bundled (con_here x) (con_here x) (con_here_bundled x) defs
+
+table_here_bundled : (x : List ℕ) (def : Def) → table_here (emitted_table x) (def_bundled def) ≡ table_here x def
+table_here_bundled x (d.Table name i nums) = rw (table_as_different name x) refl
+table_here_bundled x (d.Struct name vars fields) = refl
+table_here_bundled x (d.Sum name vars cons) = refl
+table_here_bundled x (d.Fun name vars params result body) = refl
+table_here_bundled x (d.Entry name) = refl
 
 pub table_named_bundled : (defs : List Def) (x : List ℕ) → table_named (map def_bundled defs) (emitted_table x) ≡ table_named defs x
-table_named_bundled [] x = refl
-table_named_bundled (d.Struct name vars fields ∷ defs) x = table_named_bundled defs x
-table_named_bundled (d.Sum name vars cons ∷ defs) x = table_named_bundled defs x
-table_named_bundled (d.Table name i nums ∷ defs) x = rw (table_as_different name x, table_named_bundled defs x) refl
-table_named_bundled (d.Fun name vars params result body ∷ defs) x = table_named_bundled defs x
-table_named_bundled (d.Entry name ∷ defs) x = table_named_bundled defs x
+table_named_bundled defs x = first_map (table_here (emitted_table x)) def_bundled defs ∙ first_same (λ def. table_here (emitted_table x) (def_bundled def)) (table_here x) defs (table_here_bundled x)
 
 abbrev pub signature_bundled : Signature → Signature
 signature_bundled f = record { vars = f.vars; params = map param_bundled f.params; result = ty_bundled f.result }
 
+fun_here_bundled : (x : List ℕ) (def : Def) → fun_here (emitted_fun x) (def_bundled def) ≡ option_map signature_bundled (fun_here x def)
+fun_here_bundled x (d.Fun name vars params result body) =
+    rw (fun_as_different name x) (map_if signature_bundled (bytes_eq name x) (record { vars = vars; params = params; result = result }))
+fun_here_bundled x (d.Struct name vars fields) = refl
+fun_here_bundled x (d.Sum name vars cons) = refl
+fun_here_bundled x (d.Table name i nums) = refl
+fun_here_bundled x (d.Entry name) = refl
+
 pub fun_named_bundled : (defs : List Def) (x : List ℕ) → fun_named (map def_bundled defs) (emitted_fun x) ≡ option_map signature_bundled (fun_named defs x)
-fun_named_bundled [] x = refl
-fun_named_bundled (d.Struct name vars fields ∷ defs) x = fun_named_bundled defs x
-fun_named_bundled (d.Sum name vars cons ∷ defs) x = fun_named_bundled defs x
-fun_named_bundled (d.Table name i nums ∷ defs) x = fun_named_bundled defs x
-fun_named_bundled (d.Fun name vars params result body ∷ defs) x = rw (fun_as_different name x)
-    (first_bundled signature_bundled (bytes_eq name x) (record { vars = vars; params = params; result = result }) _ _ (fun_named_bundled defs x))
-fun_named_bundled (d.Entry name ∷ defs) x = fun_named_bundled defs x
+fun_named_bundled defs x = first_moved def_bundled signature_bundled (fun_here (emitted_fun x)) (fun_here x) (fun_here_bundled x) defs
 
 field_named_bundled : (fields : List Field) (y : List ℕ) → field_named (map field_bundled fields) (emitted_field y) ≡ option_map ty_bundled (field_named fields y)
-field_named_bundled [] y = refl
-field_named_bundled (g ∷ fields) y = rw (field_as_different g.name y) (first_bundled ty_bundled (bytes_eq g.name y) g.ty _ _ (field_named_bundled fields y))
+field_named_bundled fields y =
+    first_moved field_bundled ty_bundled (field_here (emitted_field y)) (field_here y) (λ g. rw (field_as_different g.name y) (map_if ty_bundled (bytes_eq g.name y) g.ty)) fields
 
 -- ---- types of parts
 

@@ -1,13 +1,15 @@
 -- What a name means in a file, and its new name in the file under the new names.
 use Rattle.std.proofs.Common.{◌≡◌, ℕ, zero, suc, false, List, [], ◌∷◌, map, length, Option, Some, None, option_map, option_and_then, bytes_eq, refl, sym, ap, ◌∙◌}
 use Rattle.std.proofs.lemmas.List.{length-map}
+use Rattle.krml_trace.specs.First.{first, numbered}
+use Rattle.krml_trace.proofs.First.{first_map, first_same, first_moved, map_if, map_numbered}
 use Rattle.krml_syntax.specs.declared.tree.Ty.{Ty, out-Ty}
 use Rattle.krml_syntax.specs.declared.tree.Ty.TheOpen.{Ty-F}
 use Rattle.krml_syntax.specs.declared.tree.Field.{Field}
 use Rattle.krml_syntax.specs.declared.tree.Con.{Con}
 use Rattle.krml_syntax.specs.declared.tree.Def.{Def}
 use Rattle.krml_syntax.specs.declared.tree.Def.TheVariants as d
-use Rattle.krml_ast.specs.Names.{Composite, Struct, Sum, type_named}
+use Rattle.krml_ast.specs.Names.{Composite, Struct, Sum, type_here, type_named}
 use Rattle.krml_syntax.specs.Types.{type_at}
 use Rattle.krml_ast.specs.WellTyped.{names_of}
 use Rattle.krml_meaning.specs.declared.value.Value.{Value}
@@ -17,7 +19,7 @@ use Rattle.krml_bundle.specs.Emitted.{emitted_fun, emitted_type, emitted_table, 
 use Rattle.krml_bundle.specs.Bundled.{ty_bundled, field_bundled, param_bundled, con_bundled, expr_bundled, def_bundled}
 use Rattle.krml_bundle.proofs.Names.{fun_as_different, type_as_different, table_as_different}
 use Rattle.krml_bundle.proofs.RunsValues as is
-use Rattle.krml_bundle.proofs.RunsValues.{value_bundled, first_bundled}
+use Rattle.krml_bundle.proofs.RunsValues.{value_bundled}
 
 -- ---- structs and sums
 
@@ -25,13 +27,15 @@ abbrev pub composite_bundled : Composite → Composite
 composite_bundled (Struct vars fields) = Struct vars (map field_bundled fields)
 composite_bundled (Sum vars cons) = Sum vars (map con_bundled cons)
 
+type_here_bundled : (x : List ℕ) (def : Def) → type_here (emitted_type x) (def_bundled def) ≡ option_map composite_bundled (type_here x def)
+type_here_bundled x (d.Struct name vars fields) = rw (type_as_different name x) (map_if composite_bundled (bytes_eq name x) (Struct vars fields))
+type_here_bundled x (d.Sum name vars cons) = rw (type_as_different name x) (map_if composite_bundled (bytes_eq name x) (Sum vars cons))
+type_here_bundled x (d.Table name i nums) = refl
+type_here_bundled x (d.Fun name vars params result body) = refl
+type_here_bundled x (d.Entry name) = refl
+
 pub type_named_bundled : (defs : List Def) (x : List ℕ) → type_named (map def_bundled defs) (emitted_type x) ≡ option_map composite_bundled (type_named defs x)
-type_named_bundled [] x = refl
-type_named_bundled (d.Struct name vars fields ∷ defs) x = rw (type_as_different name x) (first_bundled composite_bundled (bytes_eq name x) (Struct vars fields) _ _ (type_named_bundled defs x))
-type_named_bundled (d.Sum name vars cons ∷ defs) x = rw (type_as_different name x) (first_bundled composite_bundled (bytes_eq name x) (Sum vars cons) _ _ (type_named_bundled defs x))
-type_named_bundled (d.Table name i nums ∷ defs) x = type_named_bundled defs x
-type_named_bundled (d.Fun name vars params result body ∷ defs) x = type_named_bundled defs x
-type_named_bundled (d.Entry name ∷ defs) x = type_named_bundled defs x
+type_named_bundled defs x = first_moved def_bundled composite_bundled (type_here (emitted_type x)) (type_here x) (type_here_bundled x) defs
 
 pub names_bundled : (fields : List Field) → names_of (map field_bundled fields) ≡ map emitted_field (names_of fields)
 names_bundled [] = refl
@@ -51,46 +55,51 @@ fields_of_bundled defs x = ap src.fields_of (type_named_bundled defs x) ∙ go (
 abbrev pub place_bundled : ℕ × List Ty → ℕ × List Ty
 place_bundled p = (p.0, map ty_bundled p.1)
 
-place_in_bundled : (cons : List Con) (k : ℕ) (x : List ℕ) → src.place_in (map con_bundled cons) k x ≡ option_map place_bundled (src.place_in cons k x)
-place_in_bundled [] k x = refl
-place_in_bundled (c ∷ cons) k x = first_bundled place_bundled (bytes_eq c.name x) (k, c.args) _ _ (place_in_bundled cons (suc k) x)
+place_in_bundled : (cons : List Con) (x : List ℕ) → src.place_in (map con_bundled cons) x ≡ option_map place_bundled (src.place_in cons x)
+place_in_bundled cons x =
+    ap (first (src.place_here x)) (map_numbered con_bundled 0 cons)
+    ∙ first_moved (λ (p : ℕ × Con). (p.0, con_bundled p.1)) place_bundled (src.place_here x) (src.place_here x) (λ p. map_if place_bundled (bytes_eq p.1.name x) (p.0, p.1.args)) (numbered 0 cons)
+
+place_here_bundled : (x : List ℕ) (def : Def) → src.con_place_here x (def_bundled def) ≡ option_map place_bundled (src.con_place_here x def)
+place_here_bundled x (d.Sum name vars cons) = place_in_bundled cons x
+place_here_bundled x (d.Struct name vars fields) = refl
+place_here_bundled x (d.Table name i nums) = refl
+place_here_bundled x (d.Fun name vars params result body) = refl
+place_here_bundled x (d.Entry name) = refl
 
 pub con_place_bundled : (defs : List Def) (x : List ℕ) → src.con_place (map def_bundled defs) x ≡ option_map place_bundled (src.con_place defs x)
-con_place_bundled [] x = refl
-con_place_bundled (d.Struct name vars fields ∷ defs) x = con_place_bundled defs x
-con_place_bundled (d.Sum name vars cons ∷ defs) x = rw (place_in_bundled cons 0 x, con_place_bundled defs x) (go (src.place_in cons 0 x))
-  where
-    go : (o : Option (ℕ × List Ty)) → src.place_or (option_map place_bundled o) (option_map place_bundled (src.con_place defs x))
-        ≡ option_map place_bundled (src.place_or o (src.con_place defs x))
-    go (Some p) = refl
-    go None = refl
-con_place_bundled (d.Table name i nums ∷ defs) x = con_place_bundled defs x
-con_place_bundled (d.Fun name vars params result body ∷ defs) x = con_place_bundled defs x
-con_place_bundled (d.Entry name ∷ defs) x = con_place_bundled defs x
+con_place_bundled defs x = first_moved def_bundled place_bundled (src.con_place_here x) (src.con_place_here x) (place_here_bundled x) defs
 
 -- ---- tables
 
+table_at_bundled : (x : List ℕ) (p : ℕ × Def) → src.table_at p.0 (emitted_table x) (def_bundled p.1) ≡ src.table_at p.0 x p.1
+table_at_bundled x (k, d.Table name i nums) = rw (table_as_different name x) refl
+table_at_bundled x (k, d.Struct name vars fields) = refl
+table_at_bundled x (k, d.Sum name vars cons) = refl
+table_at_bundled x (k, d.Fun name vars params result body) = refl
+table_at_bundled x (k, d.Entry name) = refl
+
 pub table_from_bundled : (k : ℕ) (defs : List Def) (x : List ℕ) → src.table_from k (map def_bundled defs) (emitted_table x) ≡ src.table_from k defs x
-table_from_bundled k [] x = refl
-table_from_bundled k (d.Struct name vars fields ∷ defs) x = table_from_bundled (suc k) defs x
-table_from_bundled k (d.Sum name vars cons ∷ defs) x = table_from_bundled (suc k) defs x
-table_from_bundled k (d.Table name i nums ∷ defs) x = rw (table_as_different name x, table_from_bundled (suc k) defs x) refl
-table_from_bundled k (d.Fun name vars params result body ∷ defs) x = table_from_bundled (suc k) defs x
-table_from_bundled k (d.Entry name ∷ defs) x = table_from_bundled (suc k) defs x
+table_from_bundled k defs x =
+    ap (first (λ p. src.table_at p.0 (emitted_table x) p.1)) (map_numbered def_bundled k defs)
+    ∙ first_map (λ p. src.table_at p.0 (emitted_table x) p.1) (λ (p : ℕ × Def). (p.0, def_bundled p.1)) (numbered k defs)
+    ∙ first_same (λ (p : ℕ × Def). src.table_at p.0 (emitted_table x) (def_bundled p.1)) (λ (p : ℕ × Def). src.table_at p.0 x p.1) (numbered k defs) (table_at_bundled x)
 
 -- ---- functions and entries
 
 abbrev pub function_bundled : src.Function → src.Function
 function_bundled f = record { tvars = f.tvars; params = map param_bundled f.params; body = expr_bundled f.body }
 
+function_here_bundled : (x : List ℕ) (def : Def) → src.function_here (emitted_fun x) (def_bundled def) ≡ option_map function_bundled (src.function_here x def)
+function_here_bundled x (d.Fun name vars params result body) =
+    rw (fun_as_different name x) (map_if function_bundled (bytes_eq name x) (record { tvars = vars; params = params; body = body }))
+function_here_bundled x (d.Struct name vars fields) = refl
+function_here_bundled x (d.Sum name vars cons) = refl
+function_here_bundled x (d.Table name i nums) = refl
+function_here_bundled x (d.Entry name) = refl
+
 pub function_named_bundled : (defs : List Def) (x : List ℕ) → src.function_named (map def_bundled defs) (emitted_fun x) ≡ option_map function_bundled (src.function_named defs x)
-function_named_bundled [] x = refl
-function_named_bundled (d.Struct name vars fields ∷ defs) x = function_named_bundled defs x
-function_named_bundled (d.Sum name vars cons ∷ defs) x = function_named_bundled defs x
-function_named_bundled (d.Table name i nums ∷ defs) x = function_named_bundled defs x
-function_named_bundled (d.Fun name vars params result body ∷ defs) x = rw (fun_as_different name x)
-    (first_bundled function_bundled (bytes_eq name x) (record { tvars = vars; params = params; body = body }) _ _ (function_named_bundled defs x))
-function_named_bundled (d.Entry name ∷ defs) x = function_named_bundled defs x
+function_named_bundled defs x = first_moved def_bundled function_bundled (src.function_here (emitted_fun x)) (src.function_here x) (function_here_bundled x) defs
 
 pub has_entry_bundled : (defs : List Def) (x : List ℕ) → src.has_entry (map def_bundled defs) (emitted_fun x) ≡ src.has_entry defs x
 has_entry_bundled [] x = refl

@@ -20,7 +20,8 @@ use Rattle.krml_meaning.proofs.Files.{through}
 use Rattle.krml_ctree.specs.declared.tree.CStruct.{CStruct}
 use Rattle.krml_ctree.specs.declared.tree.CTable.{CTable}
 use Rattle.krml_ctree.specs.declared.tree.CFun.{CFun}
-use Rattle.krml_ctree.specs.Parts.{the_only, numbered}
+use Rattle.krml_trace.specs.First.{numbered}
+use Rattle.krml_ctree.specs.Parts.{the_only}
 use Rattle.krml_cstar.specs.Translation.{fun_code, structs_of, tables_of, funs_of, program_of}
 use Rattle.krml_cstar.specs.Image.{place}
 use Rattle.krml_cstar.proofs.Lookups.{Lookups, fields_of}

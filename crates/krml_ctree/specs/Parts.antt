@@ -1,6 +1,7 @@
 -- Values, memory and variables of a run of C.
 use Rattle.std.specs.Prelude.{ℕ, suc, ◌-◌, Bool, true, false, if◌then◌else◌, nat_lt, List, [], ◌∷◌, map, length, drop, filter, Option, Some, None, option_map, option_and_then, slice_get}
 use Rattle.std.specs.Str.{bytes_eq}
+use Rattle.krml_trace.specs.First.{numbered}
 use Rattle.krml_trace.specs.declared.width.Width.{Width}
 use Rattle.krml_trace.specs.declared.width.Width.TheVariants.{W8, W32, W64}
 use Rattle.krml_trace.specs.Width.{same_width}
@@ -58,10 +59,6 @@ abbrev pub function_named : CProgram → List ℕ → Option CFun
 function_named p x = the_only (filter (λ f. bytes_eq f.name x) p.funs)
 
 -- a table, and its place
-abbrev pub numbered : {A : Type 0} → ℕ → List A → List (ℕ × A)
-numbered k [] = []
-numbered k (a ∷ more) = (k, a) ∷ numbered (suc k) more
-
 abbrev pub table_named : CProgram → List ℕ → Option (ℕ × CTable)
 table_named p x = the_only (filter (λ t. bytes_eq t.1.name x) (numbered 0 p.tables))
 

@@ -2,7 +2,7 @@
 use Rattle.std.proofs.Common.{◌≡◌, ℕ, zero, suc, Bool, true, false, if◌then◌else◌, List, [], ◌∷◌, map, length, Option, Some, None, option_map, option_and_then, bytes_eq, refl, sym, ap, ◌∙◌, subst}
 use Rattle.std.proofs.lemmas.List.{length-map}
 use Rattle.krml_trace.specs.First.{first, numbered}
-use Rattle.krml_trace.proofs.First.{first_map, first_same, first_mapped, image_if, numbered_map}
+use Rattle.krml_trace.proofs.First.{first_map, first_same, first_moved, map_if, map_numbered}
 use Rattle.krml_syntax.specs.declared.tree.Ty.{Ty, out-Ty, roll-Ty, map-Ty}
 use Rattle.krml_syntax.specs.declared.tree.Ty.TheVariants as t
 use Rattle.krml_syntax.specs.declared.tree.Ty.TheViews.{roll-out-Ty}
@@ -24,6 +24,9 @@ use Rattle.krml_meaning.specs.Meaning as src
 use Rattle.krml_passing.specs.Images.{Images}
 use Rattle.krml_passing.specs.Naming.{Naming, ty_under, images_of, field_under, param_under, con_under, def_under, function_under}
 use Rattle.krml_passing.proofs.Values as is
+
+image_if : {X Y : Type 0} (g : X → Y) {b c : Bool} → c ≡ b → (v : X) → (if c then Some (g v) else None) ≡ option_map g (if b then Some v else None)
+image_if g {b = b} e v = ap (λ z. if z then Some (g v) else None) e ∙ map_if g b v
 
 module _ (n : Naming) where
   -- ---- types
@@ -104,8 +107,8 @@ module _ (n : Naming) where
   place_under p = (p.0, map n.ty p.1)
 
   place_in_under : (cons : List Con) (x : List ℕ) → src.place_in (map (con_under n) cons) (n.con x) ≡ option_map place_under (src.place_in cons x)
-  place_in_under cons x = ap (first (src.place_here (n.con x))) (numbered_map (con_under n) 0 cons)
-      ∙ first_mapped (src.place_here x) (src.place_here (n.con x)) (λ p. (p.0, con_under n p.1)) place_under
+  place_in_under cons x = ap (first (src.place_here (n.con x))) (map_numbered (con_under n) 0 cons)
+      ∙ first_moved (λ p. (p.0, con_under n p.1)) place_under (src.place_here (n.con x)) (src.place_here x)
       (λ p. image_if place_under (n.con_apart p.1.name x) (p.0, p.1.args)) (numbered 0 cons)
 
   module _ (body : Expr → Expr) where
@@ -121,7 +124,7 @@ module _ (n : Naming) where
 
     pub type_named_under : (defs : List Def) (x : List ℕ) → type_named (to defs) (n.named x)
         ≡ option_map composite_under (type_named defs x)
-    type_named_under defs x = first_mapped (type_here x) (type_here (n.named x)) (def_under n body) composite_under (type_under x) defs
+    type_named_under defs x = first_moved (def_under n body) composite_under (type_here (n.named x)) (type_here x) (type_under x) defs
 
     pub fields_of_under : (defs : List Def) (x : List ℕ) → src.fields_of (type_named (to defs) (n.named x))
         ≡ option_map (map n.field) (src.fields_of (type_named defs x))
@@ -140,7 +143,7 @@ module _ (n : Naming) where
     con_under_place x (d.Entry name) = refl
 
     pub con_place_under : (defs : List Def) (x : List ℕ) → src.con_place (to defs) (n.con x) ≡ option_map place_under (src.con_place defs x)
-    con_place_under defs x = first_mapped (src.con_place_here x) (src.con_place_here (n.con x)) (def_under n body) place_under (con_under_place x) defs
+    con_place_under defs x = first_moved (def_under n body) place_under (src.con_place_here (n.con x)) (src.con_place_here x) (con_under_place x) defs
 
     -- ---- tables, functions and entries
 
@@ -152,7 +155,7 @@ module _ (n : Naming) where
     table_under x (k, d.Entry name) = refl
 
     pub table_from_under : (k : ℕ) (defs : List Def) (x : List ℕ) → src.table_from k (to defs) (n.table x) ≡ src.table_from k defs x
-    table_from_under k defs x = ap (first (λ p. src.table_at p.0 (n.table x) p.1)) (numbered_map (def_under n body) k defs)
+    table_from_under k defs x = ap (first (λ p. src.table_at p.0 (n.table x) p.1)) (map_numbered (def_under n body) k defs)
         ∙ first_map (λ p. src.table_at p.0 (n.table x) p.1) (λ p. (p.0, def_under n body p.1)) (numbered k defs)
         ∙ first_same (λ p. src.table_at p.0 (n.table x) (def_under n body p.1)) (λ p. src.table_at p.0 x p.1) (numbered k defs) (table_under x)
 
@@ -165,7 +168,7 @@ module _ (n : Naming) where
 
     pub function_named_under : (defs : List Def) (x : List ℕ) → src.function_named (to defs) (n.fun x)
         ≡ option_map (function_under n body) (src.function_named defs x)
-    function_named_under defs x = first_mapped (src.function_here x) (src.function_here (n.fun x)) (def_under n body) (function_under n body) (fun_under x) defs
+    function_named_under defs x = first_moved (def_under n body) (function_under n body) (src.function_here (n.fun x)) (src.function_here x) (fun_under x) defs
 
     pub has_entry_under : (defs : List Def) (x : List ℕ) → src.has_entry (to defs) (n.fun x) ≡ src.has_entry defs x
     has_entry_under [] x = refl

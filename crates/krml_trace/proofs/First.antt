@@ -116,25 +116,22 @@ pub first_same : {A X : Type 0} (give take : A → Option X) (xs : List A) → (
 first_same give take [] h = refl
 first_same give take (a ∷ xs) h = ap (λ o. option_or o (first give xs)) (h a) ∙ ap (option_or (take a)) (first_same give take xs h)
 
--- the answers of the images are the images of the answers
-pub first_mapped : {A B X Y : Type 0} (give : A → Option X) (take : B → Option Y) (f : A → B) (g : X → Y) → ((a : A) → take (f a) ≡ option_map g (give a))
-    → (xs : List A) → first take (map f xs) ≡ option_map g (first give xs)
-first_mapped give take f g h xs = first_map take f xs ∙ first_same (λ a. take (f a)) (λ a. option_map g (give a)) xs h ∙ sym (map_first g give xs)
-
-pub image_if : {X Y : Type 0} (g : X → Y) {b c : Bool} → c ≡ b → (v : X) → (if c then Some (g v) else None) ≡ option_map g (if b then Some v else None)
-image_if g {b = b} e v = ap (λ z. if z then Some (g v) else None) e ∙ go b
-  where
-    go : (b : Bool) → (if b then Some (g v) else None) ≡ option_map g (if b then Some v else None)
-    go true = refl
-    go false = refl
-
 pub first_flat : {A B X : Type 0} (give : B → Option X) (f : A → List B) (xs : List A) → first give (flat_map f xs) ≡ first (λ a. first give (f a)) xs
 first_flat give f [] = refl
 first_flat give f (a ∷ xs) = first_more give (f a) (flat_map f xs) ∙ ap (option_or (first give (f a))) (first_flat give f xs)
 
-pub numbered_map : {A B : Type 0} (f : A → B) (k : ℕ) (xs : List A) → numbered k (map f xs) ≡ map (λ p. (p.0, f p.1)) (numbered k xs)
-numbered_map f k [] = refl
-numbered_map f k (a ∷ xs) = ap (λ z. (k, f a) ∷ z) (numbered_map f (suc k) xs)
+pub map_if : {X Y : Type 0} (f : X → Y) (b : Bool) (v : X) → (if b then Some (f v) else None) ≡ option_map f (if b then Some v else None)
+map_if f true v = refl
+map_if f false v = refl
+
+-- items under a map, whose answers are mapped too
+pub first_moved : {A B X Y : Type 0} (f : A → B) (g : X → Y) (give : B → Option Y) (other : A → Option X) → ((a : A) → give (f a) ≡ option_map g (other a))
+    → (xs : List A) → first give (map f xs) ≡ option_map g (first other xs)
+first_moved f g give other h xs = first_map give f xs ∙ first_same (λ a. give (f a)) (λ a. option_map g (other a)) xs h ∙ sym (map_first g other xs)
+
+pub map_numbered : {A B : Type 0} (f : A → B) (k : ℕ) (xs : List A) → numbered k (map f xs) ≡ map (λ p. (p.0, f p.1)) (numbered k xs)
+map_numbered f k [] = refl
+map_numbered f k (a ∷ xs) = ap (λ z. (k, f a) ∷ z) (map_numbered f (suc k) xs)
 
 -- items that are asked without their places
 pub first_numbered : {A X : Type 0} (give : A → Option X) (k : ℕ) (xs : List A) → first (λ p. give p.1) (numbered k xs) ≡ first give xs
