@@ -30,12 +30,12 @@ use Rattle.krml_passing.specs.Alike.{Scopes, Same, Leads, SameOf}
 use Rattle.krml_passing.specs.RunsAs.{run_image, RunsAs}
 use Rattle.krml_rename.specs.Pass.{Layer, Pass, passed, parts_passed, changing, def_with, file_with}
 use Rattle.krml_rename.specs.Renaming.{Renaming, slot_renamed, renamed, item_renamed}
-use Rattle.krml_passing.specs.Naming.{Naming, ty_under, pat_under, images_of, renaming_of, under_names, def_under, file_under}
+use Rattle.krml_passing.specs.Naming.{unchanged, ty_under, pat_under, images_of, renaming_of, under_names, def_under, file_under}
 use Rattle.krml_passing.proofs.Forms.{SameTested}
 use Rattle.krml_passing.proofs.Passes.{layer_means, PartsPass, LayerPasses, all_pass}
 use Rattle.krml_passing.proofs.Renamed.{SameArm, layer_same, item_layer_passes, arm_layer_passes, case_layer_passes}
 use Rattle.krml_passing.proofs.Lookups.{to}
-use Rattle.krml_passing.proofs.Naming.{unchanged}
+use Rattle.krml_passing.proofs.Naming.{unchanged_apart}
 use Rattle.krml_passing.proofs.Named.{CallsUnder, scopes_under, names_under, pats_under, runs_under}
 
 -- ---- names as they are
@@ -64,19 +64,19 @@ def_itself body (d.Entry x) = refl
 file_itself : (body : Expr → Expr) (file : SourceFile) → file_under unchanged body file ≡ file_with body file
 file_itself body file = ap (λ z. record { defs = z }) (map_same (def_under unchanged body) (def_with body) file.defs (def_itself body))
 
-event_itself : (e : SourceEvent) → event_image (images_of unchanged) e ≡ e
+event_itself : (e : SourceEvent) → event_image (images_of unchanged unchanged_apart) e ≡ e
 event_itself (event.Push slots) = ap event.Push (map-id slots)
 event_itself _ = refl
 
 -- the image of a run under these names is that run
-run_itself : (r : SourceRun) → run_image (event_image (images_of unchanged)) r ≡ run_image (λ e. e) r
-run_itself r = ap (λ es. record { outcome = r.outcome; events = es }) (map_same (event_image (images_of unchanged))
+run_itself : (r : SourceRun) → run_image (event_image (images_of unchanged unchanged_apart)) r ≡ run_image (λ e. e) r
+run_itself r = ap (λ es. record { outcome = r.outcome; events = es }) (map_same (event_image (images_of unchanged unchanged_apart))
     (λ e. e) r.events event_itself)
 
 -- ---- rows of a pass, and whole files
 
 abbrev pub im : Images
-im = images_of unchanged
+im = images_of unchanged unchanged_apart
 
 abbrev pub ren : Renaming
 ren = renaming_of unchanged
@@ -92,44 +92,50 @@ module _ (change : Layer → Expr) where
   abbrev pub changed : Expr → Expr
   changed = passed p
 
-  module _ (defs : List Def) (calls calls' : src.Calls) (k : CallsUnder unchanged calls calls') where
+  module _ (defs : List Def) (calls calls' : src.Calls) (k : CallsUnder unchanged unchanged_apart calls calls') where
     -- What is shown of a row of the pass: a layer does the same after it, where its parts do.
     abbrev pub RowSame : Layer → Type 0
     RowSame = LayerPasses (slot_renamed ren) (Same im I) (Leads im I I) (SameArm im I) (SameTested im I) defs
-        (to unchanged changed defs) calls calls' p
+        (to unchanged unchanged_apart changed defs) calls calls' p
 
     abbrev PartsSame : Layer → Type 0
     PartsSame y = PartsPass (slot_renamed ren) (Same im I) (Leads im I I) (SameArm im I) (SameTested im I) defs
-        (to unchanged changed defs) calls calls' p (parts_of y)
+        (to unchanged unchanged_apart changed defs) calls calls' p (parts_of y)
 
     -- a layer that is left as it is, does
     pub left_same : (y : Layer) → PartsSame y
         → SameOf (slot_renamed ren) (Same im I) (layer_means defs calls y)
-        (old.means (to unchanged changed defs) calls' (roll-Expr (parts_passed p y)))
+        (old.means (to unchanged unchanged_apart changed defs) calls' (roll-Expr (parts_passed p y)))
     left_same y parts = subst (λ z. SameOf (slot_renamed ren) (Same im I) (layer_means defs calls y)
-        (old.means (to unchanged changed defs) calls' (roll-Expr z))) (renamed_itself (parts_passed p y))
-        (layer_same im ren I (scopes_under unchanged) (λ x. refl) defs (to unchanged changed defs) calls calls' p y
-        (names_under unchanged changed defs calls calls' k y) parts)
+        (old.means (to unchanged unchanged_apart changed defs) calls' (roll-Expr z))) (renamed_itself (parts_passed p y))
+        (layer_same im ren I (scopes_under unchanged unchanged_apart) (λ x. refl) defs
+        (to unchanged unchanged_apart changed defs) calls calls' p y
+        (names_under unchanged unchanged_apart changed defs calls calls' k y) parts)
 
     pub row_left : (y : Layer) → change (parts_passed p y) ≡ roll-Expr (parts_passed p y) → RowSame y
     row_left y is parts = rw is (left_same y parts)
 
     expr_same : ((y : Layer) → RowSame y) → (x : Expr)
-        → SameOf (slot_renamed ren) (Same im I) (src.meaning defs calls x) (src.meaning (to unchanged changed defs) calls' (changed x))
+        → SameOf (slot_renamed ren) (Same im I) (src.meaning defs calls x) (src.meaning (to unchanged unchanged_apart changed defs) calls'
+        (changed x))
     expr_same rows = all_pass (slot_renamed ren) (Same im I) (Leads im I I) (SameArm im I) (SameTested im I) defs
-        (to unchanged changed defs) calls calls' p rows
-        (λ y. item_layer_passes im ren I (scopes_under unchanged) (λ x. refl) defs (to unchanged changed defs) calls calls' p y
+        (to unchanged unchanged_apart changed defs) calls calls' p rows
+        (λ y. item_layer_passes im ren I (scopes_under unchanged unchanged_apart) (λ x. refl) defs
+        (to unchanged unchanged_apart changed defs) calls calls' p y
         (ap roll-Item (sym (item_itself _))))
-        (λ y. arm_layer_passes im ren I (scopes_under unchanged) (λ x. refl) defs (to unchanged changed defs) calls calls' p y refl
-        (pats_under unchanged changed defs calls calls' k y.pat))
-        (λ y. case_layer_passes im ren I (scopes_under unchanged) (λ x. refl) defs (to unchanged changed defs) calls calls' p y refl)
+        (λ y. arm_layer_passes im ren I (scopes_under unchanged unchanged_apart) (λ x. refl) defs
+        (to unchanged unchanged_apart changed defs) calls calls' p y refl
+        (pats_under unchanged unchanged_apart changed defs calls calls' k y.pat))
+        (λ y. case_layer_passes im ren I (scopes_under unchanged unchanged_apart) (λ x. refl) defs
+        (to unchanged unchanged_apart changed defs) calls calls' p y refl)
 
   -- A pass each row of which does the same keeps every run, with its events.
-  pub runs_changed : (file : SourceFile) → ((calls calls' : src.Calls) (k : CallsUnder unchanged calls calls') (y : Layer)
+  pub runs_changed : (file : SourceFile) → ((calls calls' : src.Calls) (k : CallsUnder unchanged unchanged_apart calls calls') (y : Layer)
       → RowSame file.defs calls calls' k y)
       → RunsAs (λ x. x) (λ e. e) file (file_with changed file)
   runs_changed file rows entry args bound = ap (λ z. src.source_run z entry args bound) (sym (file_itself changed file))
-      ∙ runs_under unchanged changed file (λ calls calls' k x. (expr_same file.defs calls calls' k (rows calls calls' k) x).from 0) entry
+      ∙ runs_under unchanged unchanged_apart changed file
+      (λ calls calls' k x. (expr_same file.defs calls calls' k (rows calls calls' k) x).from 0) entry
       args bound
       ∙ run_itself (src.source_run file entry args bound)
 
@@ -137,5 +143,5 @@ module _ (change : Layer → Expr) where
   pub runs_rewritten : ((defs : List Def) (calls : src.Calls) (y : Layer) → src.meaning defs calls (change y)
       ≡ src.meaning defs calls (roll-Expr y))
       → (file : SourceFile) → RunsAs (λ x. x) (λ e. e) file (file_with changed file)
-  runs_rewritten same file = runs_changed file (λ calls calls' k y parts. rw (same (to unchanged changed file.defs) calls'
+  runs_rewritten same file = runs_changed file (λ calls calls' k y parts. rw (same (to unchanged unchanged_apart changed file.defs) calls'
       (parts_passed p y)) (left_same file.defs calls calls' k y parts))

@@ -22,34 +22,34 @@ use Rattle.krml_meaning.specs.declared.value.Value.{Value}
 use Rattle.krml_meaning.specs.declared.value.Value.TheVariants as v
 use Rattle.krml_meaning.specs.Meaning as src
 use Rattle.krml_passing.specs.Images.{Images}
-use Rattle.krml_passing.specs.Naming.{Naming, ty_under, images_of, field_under, param_under, con_under, def_under, function_under}
+use Rattle.krml_passing.specs.Naming.{Naming, TellsNamesApart, ty_under, images_of, field_under, param_under, con_under, def_under, function_under}
 use Rattle.krml_passing.proofs.Values as is
 
 image_if : {X Y : Type 0} (g : X → Y) {b c : Bool} → c ≡ b → (v : X) → (if c then Some (g v) else None) ≡ option_map g (if b then Some v else None)
 image_if g {b = b} e v = ap (λ z. if z then Some (g v) else None) e ∙ map_if g b v
 
-module _ (n : Naming) where
+module _ (n : Naming) (ok : TellsNamesApart n) where
   -- ---- types
 
   ty_is : (a : Ty) → n.ty a ≡ roll-Ty (ty_under n.ty n.named (out-Ty a))
-  ty_is a = sym (roll-out-Ty (n.ty a)) ∙ ap roll-Ty (n.out_ty a)
+  ty_is a = sym (roll-out-Ty (n.ty a)) ∙ ap roll-Ty (ok.out_ty a)
 
-  bool_ty : n.ty t.Bool ≡ t.Bool
+  pub bool_ty : n.ty t.Bool ≡ t.Bool
   bool_ty = ty_is t.Bool ∙ ap (λ o. roll-Ty (ty_under n.ty n.named o)) t.outs-Bool ∙ t.rolls-Bool
 
-  unit_ty : n.ty t.Unit ≡ t.Unit
+  pub unit_ty : n.ty t.Unit ≡ t.Unit
   unit_ty = ty_is t.Unit ∙ ap (λ o. roll-Ty (ty_under n.ty n.named o)) t.outs-Unit ∙ t.rolls-Unit
 
   pub int_ty : (i : IntTy) → n.ty (t.Int i) ≡ t.Int i
   int_ty i = ty_is (t.Int i) ∙ ap (λ o. roll-Ty (ty_under n.ty n.named o)) (t.outs-Int i) ∙ t.rolls-Int i
 
-  buf_ty : (a : Ty) → n.ty (t.Buf a) ≡ t.Buf (n.ty a)
+  pub buf_ty : (a : Ty) → n.ty (t.Buf a) ≡ t.Buf (n.ty a)
   buf_ty a = ty_is (t.Buf a) ∙ ap (λ o. roll-Ty (ty_under n.ty n.named o)) (t.outs-Buf a) ∙ t.rolls-Buf (n.ty a)
 
-  var_ty : (x : List ℕ) → n.ty (t.Var x) ≡ t.Var x
+  pub var_ty : (x : List ℕ) → n.ty (t.Var x) ≡ t.Var x
   var_ty x = ty_is (t.Var x) ∙ ap (λ o. roll-Ty (ty_under n.ty n.named o)) (t.outs-Var x) ∙ t.rolls-Var x
 
-  named_ty : (x : List ℕ) (args : List Ty) → n.ty (t.Named x args) ≡ t.Named (n.named x) (map n.ty args)
+  pub named_ty : (x : List ℕ) (args : List Ty) → n.ty (t.Named x args) ≡ t.Named (n.named x) (map n.ty args)
   named_ty x args = ty_is (t.Named x args) ∙ ap (λ o. roll-Ty (ty_under n.ty n.named o)) (t.outs-Named x args)
       ∙ t.rolls-Named (n.named x) (map n.ty args)
 
@@ -109,15 +109,15 @@ module _ (n : Naming) where
   place_in_under : (cons : List Con) (x : List ℕ) → src.place_in (map (con_under n) cons) (n.con x) ≡ option_map place_under (src.place_in cons x)
   place_in_under cons x = ap (first (src.place_here (n.con x))) (map_numbered (con_under n) 0 cons)
       ∙ first_moved (λ p. (p.0, con_under n p.1)) place_under (src.place_here (n.con x)) (src.place_here x)
-      (λ p. image_if place_under (n.con_apart p.1.name x) (p.0, p.1.args)) (numbered 0 cons)
+      (λ p. image_if place_under (ok.con_apart p.1.name x) (p.0, p.1.args)) (numbered 0 cons)
 
   module _ (body : Expr → Expr) where
     abbrev pub to : List Def → List Def
     to defs = map (def_under n body) defs
 
     type_under : (x : List ℕ) (def : Def) → type_here (n.named x) (def_under n body def) ≡ option_map composite_under (type_here x def)
-    type_under x (d.Struct name vars fields) = image_if composite_under (n.named_apart name x) (Struct vars fields)
-    type_under x (d.Sum name vars cons) = image_if composite_under (n.named_apart name x) (Sum vars cons)
+    type_under x (d.Struct name vars fields) = image_if composite_under (ok.named_apart name x) (Struct vars fields)
+    type_under x (d.Sum name vars cons) = image_if composite_under (ok.named_apart name x) (Sum vars cons)
     type_under x (d.Table name i nums) = refl
     type_under x (d.Fun name vars params result e) = refl
     type_under x (d.Entry name) = refl
@@ -148,7 +148,7 @@ module _ (n : Naming) where
     -- ---- tables, functions and entries
 
     table_under : (x : List ℕ) (p : ℕ × Def) → src.table_at p.0 (n.table x) (def_under n body p.1) ≡ src.table_at p.0 x p.1
-    table_under x (k, d.Table name i nums) = ap (λ b. if b then Some (record { place = k; ty = i; nums = nums }) else None) (n.table_apart name x)
+    table_under x (k, d.Table name i nums) = ap (λ b. if b then Some (record { place = k; ty = i; nums = nums }) else None) (ok.table_apart name x)
     table_under x (k, d.Struct name vars fields) = refl
     table_under x (k, d.Sum name vars cons) = refl
     table_under x (k, d.Fun name vars params result e) = refl
@@ -160,7 +160,7 @@ module _ (n : Naming) where
         ∙ first_same (λ p. src.table_at p.0 (n.table x) (def_under n body p.1)) (λ p. src.table_at p.0 x p.1) (numbered k defs) (table_under x)
 
     fun_under : (x : List ℕ) (def : Def) → src.function_here (n.fun x) (def_under n body def) ≡ option_map (function_under n body) (src.function_here x def)
-    fun_under x (d.Fun name vars params result e) = image_if (function_under n body) (n.fun_apart name x) (record { tvars = vars; params = params; body = e })
+    fun_under x (d.Fun name vars params result e) = image_if (function_under n body) (ok.fun_apart name x) (record { tvars = vars; params = params; body = e })
     fun_under x (d.Struct name vars fields) = refl
     fun_under x (d.Sum name vars cons) = refl
     fun_under x (d.Table name i nums) = refl
@@ -172,13 +172,13 @@ module _ (n : Naming) where
 
     pub has_entry_under : (defs : List Def) (x : List ℕ) → src.has_entry (to defs) (n.fun x) ≡ src.has_entry defs x
     has_entry_under [] x = refl
-    has_entry_under (d.Entry name ∷ defs) x = rw (n.fun_apart name x, has_entry_under defs x) refl
+    has_entry_under (d.Entry name ∷ defs) x = rw (ok.fun_apart name x, has_entry_under defs x) refl
     has_entry_under (_ ∷ defs) x = has_entry_under defs x
 
   -- ---- zero values
 
   abbrev im : Images
-  im = images_of n
+  im = images_of n ok
 
   all_some_under : (os : List (Option Value)) → src.all_some (map (option_map n.value) os) ≡ option_map (map n.value) (src.all_some os)
   all_some_under [] = refl
@@ -230,7 +230,7 @@ module _ (n : Naming) where
   module _ (body : Expr → Expr) (defs : List Def) where
     zero_within_under : (k : ℕ) (a : Ty) → src.zero_within k (to body defs) (n.ty a) ≡ option_map n.value (src.zero_within k defs a)
     zero_within_under zero a = refl
-    zero_within_under (suc k) a = ap (src.zero_in (src.zero_within k (to body defs)) (to body defs)) (n.out_ty a)
+    zero_within_under (suc k) a = ap (src.zero_in (src.zero_within k (to body defs)) (to body defs)) (ok.out_ty a)
         ∙ go (zero_within_under k) (out-Ty a)
       where
         go : ((a : Ty) → src.zero_within k (to body defs) (n.ty a) ≡ option_map n.value (src.zero_within k defs a)) → (o : Ty-F Ty)

@@ -24,7 +24,7 @@ use Rattle.krml_passing.specs.Alike.{Alike, IsImage, Same, SameOf}
 use Rattle.krml_passing.specs.RunsAs.{RunsAs, FitsAs}
 use Rattle.krml_rename.specs.Pass.{Layer}
 use Rattle.krml_rename.specs.Renaming.{slot_renamed, expr_renamed}
-use Rattle.krml_passing.specs.Naming.{Naming, ty_under, images_of, renaming_of, env_image, under_names, param_under, file_under, function_under, file_renamed}
+use Rattle.krml_passing.specs.Naming.{Naming, TellsNamesApart, ty_under, images_of, renaming_of, env_image, under_names, param_under, file_under, function_under, file_renamed}
 use Rattle.krml_passing.proofs.Alike.{alike_some, alike_to}
 use Rattle.krml_passing.proofs.Values.{first_image}
 use Rattle.krml_passing.proofs.Forms.{SameCon, SameZero, table_image}
@@ -38,9 +38,9 @@ itself : {A : Type 0} (o : Option A) → o ≡ option_map (λ a. a) o
 itself (Some a) = refl
 itself None = refl
 
-module _ (n : Naming) where
+module _ (n : Naming) (ok : TellsNamesApart n) where
   abbrev im : Images
-  im = images_of n
+  im = images_of n ok
 
   -- ---- scopes
 
@@ -53,7 +53,7 @@ module _ (n : Naming) where
 
   closed_image : (env : Env) (types : List Ty) → map (closed (env_image n env)) (map n.ty types) ≡ map n.ty (map (closed env) types)
   closed_image env [] = refl
-  closed_image env (a ∷ types) = ap (λ z. z ∷ map (closed (env_image n env)) (map n.ty types)) (ty_at n env.tvars env.targs a)
+  closed_image env (a ∷ types) = ap (λ z. z ∷ map (closed (env_image n env)) (map n.ty types)) (ty_at n ok env.tvars env.targs a)
       ∙ ap (λ z. n.ty (closed env a) ∷ z) (closed_image env types)
 
   pub scopes_under : ScopesKept im (renaming_of n) (under_names n)
@@ -64,7 +64,7 @@ module _ (n : Naming) where
     look = λ env env' m x i. ap (λ (z : Env). value_of z.vars x) i ∙ value_of_image env.vars x;
     at_base = λ env env' m i. ap (λ (z : Env). z.base) i;
     slot = λ env env' m s i. ap (λ z. closed_slot z (slot_renamed (renaming_of n) s)) i
-        ∙ ap (λ z. record { ty = z; len = s.len }) (ty_at n env.tvars env.targs s.ty);
+        ∙ ap (λ z. record { ty = z; len = s.len }) (ty_at n ok env.tvars env.targs s.ty);
   }
 
   -- ---- calls
@@ -79,22 +79,22 @@ module _ (n : Naming) where
   -- ---- names of a layer
 
   module _ (body : Expr → Expr) (defs : List Def) (calls calls' : src.Calls) (k : CallsUnder calls calls') where
-    abbrev con_kept : (x : List ℕ) → SameCon defs (to n body defs) x (n.con x)
-    con_kept x = record { to = place_under n; is = con_place_under n body defs x; place = λ p. refl }
+    abbrev con_kept : (x : List ℕ) → SameCon defs (to n ok body defs) x (n.con x)
+    con_kept x = record { to = place_under n ok; is = con_place_under n ok body defs x; place = λ p. refl }
 
-    zero_kept : (x : List ℕ) (j : ℕ) → SameZero im defs (to n body defs) x (n.con x) (con_kept x) j
-    zero_kept x j p e = ap (option_and_then (src.zero_value (to n body defs))) (slice_get-map n.ty p.1 j) ∙ go (slice_get p.1 j)
+    zero_kept : (x : List ℕ) (j : ℕ) → SameZero im defs (to n ok body defs) x (n.con x) (con_kept x) j
+    zero_kept x j p e = ap (option_and_then (src.zero_value (to n ok body defs))) (slice_get-map n.ty p.1 j) ∙ go (slice_get p.1 j)
       where
-        go : (o : Option Ty) → option_and_then (src.zero_value (to n body defs)) (option_map n.ty o)
+        go : (o : Option Ty) → option_and_then (src.zero_value (to n ok body defs)) (option_map n.ty o)
             ≡ option_map n.value (option_and_then (src.zero_value defs) o)
-        go (Some a) = zero_value_under n body defs a
+        go (Some a) = zero_value_under n ok body defs a
         go None = refl
 
     pub names_under : {E I A C : Type 0} (y : Expr-F E I A C)
-        → Kept im (renaming_of n) (under_names n) scopes_under (λ y. refl) defs (to n body defs) calls calls' y
-    names_under (Expr-F.Make x args es) = fields_of_under n body defs x
+        → Kept im (renaming_of n) (under_names n) scopes_under (λ y. refl) defs (to n ok body defs) calls calls' y
+    names_under (Expr-F.Make x args es) = fields_of_under n ok body defs x
     names_under (Expr-F.Con x args es) = con_kept x
-    names_under (Expr-F.Tab x a) = table_from_under n body 0 defs x ∙ itself (src.table_from 0 defs x)
+    names_under (Expr-F.Tab x a) = table_from_under n ok body 0 defs x ∙ itself (src.table_from 0 defs x)
     names_under (Expr-F.Call f args es) = λ env env' xs s i. k (record { name = f; types = map (closed env) args; values = xs }) _ s
         (ap (λ z. record { name = n.fun f; types = z; values = map n.value xs }) (ap (λ z. map (closed z) (map n.ty args)) i
         ∙ closed_image env args))
@@ -102,13 +102,13 @@ module _ (n : Naming) where
     names_under (Expr-F.Part x j a) = (con_kept x, zero_kept x j)
     names_under _ = tt
 
-    pub pats_under : (q : Pat) → PatKept im (renaming_of n) (under_names n) scopes_under (λ y. refl) defs (to n body defs) calls calls' q
-    pats_under q x = (takes_under n body defs q).run x
+    pub pats_under : (q : Pat) → PatKept im (renaming_of n) (under_names n) scopes_under (λ y. refl) defs (to n ok body defs) calls calls' q
+    pats_under q x = (takes_under n ok body defs q).run x
 
   -- ---- arguments
 
-  fits_under_ty : FitsAlike im (λ i. int_ty n i) n.ty
-  fits_under_ty x a b = ap (src.passing x a) (n.out_ty b) ∙ go x a (out-Ty b)
+  fits_under_ty : FitsAlike im (λ i. int_ty n ok i) n.ty
+  fits_under_ty x a b = ap (src.passing x a) (ok.out_ty b) ∙ go x a (out-Ty b)
     where
       buffer : (x : List ℕ) (w : Width) (nums : List ℕ) (o : Ty-F Ty) → src.buffer_for x w nums (ty_under n.ty n.named o)
           ≡ src.buffer_for x w nums o
@@ -116,7 +116,7 @@ module _ (n : Naming) where
       buffer x w nums _ = refl
 
       go : (x : List ℕ) (a : Arg) (o : Ty-F Ty) → src.passing x a (ty_under n.ty n.named o) ≡ src.passing x a o
-      go x (arg.Buf w nums) (Ty-F.Buf a) = ap (src.buffer_for x w nums) (n.out_ty a) ∙ buffer x w nums (out-Ty a)
+      go x (arg.Buf w nums) (Ty-F.Buf a) = ap (src.buffer_for x w nums) (ok.out_ty a) ∙ buffer x w nums (out-Ty a)
       go x (arg.Bool b) Ty-F.Bool = refl
       go x (arg.Bool b) _ = refl
       go x (arg.Num w k) (Ty-F.Int i) = refl
@@ -137,14 +137,14 @@ module _ (n : Naming) where
     -- Bodies do the same, where calls do.
     abbrev pub BodiesSame : List Def → Type 0
     BodiesSame defs = (calls calls' : src.Calls) → CallsUnder calls calls' → (x : Expr)
-        → Same im (under_names n) (src.eval defs calls x) (src.eval (to n body defs) calls' (body x))
+        → Same im (under_names n) (src.eval defs calls x) (src.eval (to n ok body defs) calls' (body x))
 
     body_under : (defs : List Def) → BodiesSame defs → (calls calls' : src.Calls) → CallsUnder calls calls'
-        → CallsUnder (src.body_of defs calls) (src.body_of (to n body defs) calls')
+        → CallsUnder (src.body_of defs calls) (src.body_of (to n ok body defs) calls')
     body_under defs same calls calls' k c c' s e = alike_to im (IsImage im) (src.body_of defs calls c s)
-        (ap (λ z. src.body_of (to n body defs) calls' z (state_image im s)) e)
+        (ap (λ z. src.body_of (to n ok body defs) calls' z (state_image im s)) e)
         (alike_some im (IsImage im) (function_under n body) Undefined (src.function_named defs c.name) _ s _ _
-        (function_named_under n body defs c.name) (λ f is_f.
+        (function_named_under n ok body defs c.name) (λ f is_f.
         alike_some im (IsImage im) (vars_image im) Undefined (src.params_over f.params c.values []) _ s _ _
         (params_under f.params c.values []) (λ vars is_vars.
         (same calls calls' k f.body).run (src.env_of f c.types vars) _ s refl)))
@@ -152,16 +152,17 @@ module _ (n : Naming) where
     pub starts_under : (file : SourceFile) (entry : List ℕ) (args : List Arg)
         → src.start (file_under n body file) (n.fun entry) args
         ≡ option_map (start_image im (function_under n body)) (src.start file entry args)
-    starts_under file = starts_alike im (λ i. int_ty n i) n.ty fits_under_ty (function_under n body) (λ f. refl) file
+    starts_under file = starts_alike im (λ i. int_ty n ok i) n.ty fits_under_ty (function_under n body) (λ f. refl) file
         (file_under n body file) n.fun
-        (has_entry_under n body file.defs) (λ x e. function_named_under n body file.defs x)
+        (has_entry_under n ok body file.defs) (λ x e. function_named_under n ok body file.defs x)
 
     -- Each run under the new names is the run under the old ones.
     pub runs_under : (file : SourceFile) → BodiesSame file.defs → RunsAs n.fun (event_image im) file (file_under n body file)
     runs_under file same = runs_as im (λ w. refl) file (file_under n body file) n.fun (function_under n body) (starts_under file)
         (λ entry args bound b is_b.
-        (same (src.enter file.defs bound.depth) (src.enter (to n body file.defs) bound.depth)
-        (enter_alike im (λ w. refl) (λ c c' m. c' ≡ called_under c) file.defs (to n body file.defs) (body_under file.defs same) bound.depth)
+        (same (src.enter file.defs bound.depth) (src.enter (to n ok body file.defs) bound.depth)
+        (enter_alike im (λ w. refl) (λ c c' m. c' ≡ called_under c) file.defs (to n ok body file.defs)
+        (body_under file.defs same) bound.depth)
         b.function.body).run
         (src.env_of b.function [] b.passed.given) _ _ refl)
 
@@ -172,5 +173,5 @@ module _ (n : Naming) where
   pub runs_renamed : (file : SourceFile) → RunsAs n.fun (event_image im) file (file_renamed n file)
   runs_renamed file = runs_under (expr_renamed (renaming_of n)) file
       (λ calls calls' k x. (renamed_same im (renaming_of n) (under_names n) scopes_under (λ y. refl) file.defs
-      (to n (expr_renamed (renaming_of n)) file.defs) calls calls' (names_under (expr_renamed (renaming_of n)) file.defs calls calls' k)
+      (to n ok (expr_renamed (renaming_of n)) file.defs) calls calls' (names_under (expr_renamed (renaming_of n)) file.defs calls calls' k)
       (pats_under (expr_renamed (renaming_of n)) file.defs calls calls' k) x).from 0)

@@ -1,4 +1,4 @@
--- Names that are given to a file: by five functions that tell names apart, or as they are.
+-- New names by five functions that tell names apart, and names as they are: types, patterns and values have them in every layer.
 use Rattle.std.proofs.Common.{◌≡◌, ℕ, List, map, refl, sym, ap, ◌∙◌}
 use Rattle.std.proofs.lemmas.List.{map-id}
 use Rattle.krml_syntax.specs.declared.tree.Ty.{Ty, out-Ty, roll-Ty}
@@ -14,7 +14,7 @@ use Rattle.krml_meaning.specs.declared.value.Value.TheViews.{out-roll-Value}
 use Rattle.krml_meaning.specs.declared.value.Value.TheOpen.{Value-F}
 use Rattle.krml_meaning.specs.declared.value.Value.TheFolds.{fold_out-Value}
 use Rattle.krml_passing.specs.Images.{value_renamed, value_under}
-use Rattle.krml_passing.specs.Naming.{TellsApart, Naming, ty_renamed, pat_renamed, ty_under, pat_under, ty_named, pat_named, value_named}
+use Rattle.krml_passing.specs.Naming.{TellsApart, TellsNamesApart, naming, unchanged, ty_renamed, pat_renamed, ty_under, pat_under, ty_named, pat_named, value_named}
 
 -- ---- by five functions
 
@@ -29,23 +29,14 @@ pub out_value_named : (field : List ℕ → List ℕ) (x : Value) → out-Value 
     ≡ value_under (value_named field) field (out-Value x)
 out_value_named field x = ap out-Value (fold_out-Value Value (λ y. roll-Value (value_renamed field y)) x) ∙ out-roll-Value _
 
--- new names of structs and sums, of constructors, functions, tables and fields
-abbrev pub naming : (named con fun table field : List ℕ → List ℕ) → TellsApart named → TellsApart con → TellsApart fun → TellsApart table
-    → TellsApart field → Naming
-naming named con fun table field named_apart con_apart fun_apart table_apart field_apart = record {
-  named = named;
-  con = con;
-  fun = fun;
-  table = table;
-  field = field;
+pub naming_apart : (named con fun table field : List ℕ → List ℕ) → TellsApart named → TellsApart con → TellsApart fun → TellsApart table
+    → TellsApart field → TellsNamesApart (naming named con fun table field)
+naming_apart named con fun table field named_apart con_apart fun_apart table_apart field_apart = record {
   named_apart = named_apart;
   con_apart = con_apart;
   fun_apart = fun_apart;
   table_apart = table_apart;
   field_apart = field_apart;
-  ty = ty_named named;
-  pat = pat_named con named;
-  value = value_named field;
   out_ty = out_ty_named named;
   out_pat = out_pat_named con named;
   out_value = out_value_named field;
@@ -68,22 +59,13 @@ value_itself (Value-F.Struct names xs) = ap (λ z. Value-F.Struct z xs) (sym (ma
 value_itself (Value-F.Con k xs) = ap (λ z. Value-F.Con k z) (sym (map-id xs))
 value_itself _ = refl
 
--- types, patterns and values are these themselves, and not only equal to them
-abbrev pub unchanged : Naming
-unchanged = record {
-  named = λ x. x;
-  con = λ x. x;
-  fun = λ x. x;
-  table = λ x. x;
-  field = λ x. x;
+pub unchanged_apart : TellsNamesApart unchanged
+unchanged_apart = record {
   named_apart = λ x y. refl;
   con_apart = λ x y. refl;
   fun_apart = λ x y. refl;
   table_apart = λ x y. refl;
   field_apart = λ x y. refl;
-  ty = λ a. a;
-  pat = λ q. q;
-  value = λ x. x;
   out_ty = λ a. ty_itself (out-Ty a);
   out_pat = λ q. pat_itself (out-Pat q);
   out_value = λ x. value_itself (out-Value x);

@@ -32,12 +32,25 @@ pub record Images : Type 0 where
   pub out : (x : Value) → out-Value (value x) ≡ value_under value field (out-Value x)
   pub apart : (x y : List ℕ) → bytes_eq (field x) (field y) ≡ bytes_eq x y
 
+abbrev pub vars_under : (Value → Value) → Variables → Variables
+vars_under value vars = map (λ p. (p.0, value p.1)) vars
+
+abbrev pub slot_under : (Ty → Ty) → Slot → Slot
+slot_under ty s = record { ty = ty s.ty; len = s.len }
+
+-- an event, where types become others and tables have other places
+abbrev pub event_under : (Ty → Ty) → (ℕ → ℕ) → SourceEvent → SourceEvent
+event_under ty place (event.Arg j a n) = event.Arg j (ty a) n
+event_under ty place (event.Push slots) = event.Push (map (slot_under ty) slots)
+event_under ty place (event.Tab k i) = event.Tab (place k) i
+event_under ty place ev = ev
+
 module _ (im : Images) where
   abbrev pub vars_image : Variables → Variables
-  vars_image vars = map (λ p. (p.0, im.value p.1)) vars
+  vars_image vars = vars_under im.value vars
 
   abbrev pub slot_image : Slot → Slot
-  slot_image s = record { ty = im.ty s.ty; len = s.len }
+  slot_image s = slot_under im.ty s
 
   abbrev pub block_image : Block → Block
   block_image b = record { elem = im.ty b.elem; len = b.len; live = b.live; items = map im.value b.items }
@@ -46,10 +59,7 @@ module _ (im : Images) where
   memory_image m = map block_image m
 
   abbrev pub event_image : SourceEvent → SourceEvent
-  event_image (event.Arg j a n) = event.Arg j (im.ty a) n
-  event_image (event.Push slots) = event.Push (map slot_image slots)
-  event_image (event.Tab k i) = event.Tab (im.place k) i
-  event_image ev = ev
+  event_image e = event_under im.ty im.place e
 
   abbrev pub events_image : List SourceEvent → List SourceEvent
   events_image es = map event_image es

@@ -5,17 +5,18 @@ use Rattle.krml_syntax.specs.declared.tree.Def.{Def}
 use Rattle.krml_syntax.specs.declared.tree.SourceFile.{SourceFile}
 use Rattle.krml_meaning.specs.Meaning.{Calls, meaning}
 use Rattle.krml_passing.specs.Images.{event_image}
-use Rattle.krml_passing.specs.Naming.{Naming, images_of, file_renamed}
+use Rattle.krml_passing.specs.Naming.{Naming, TellsNamesApart, images_of, file_renamed}
 use Rattle.krml_rename.specs.Pass.{Layer, passed, changing, file_with}
 use Rattle.krml_passing.specs.RunsAs.{RunsAs, FitsAs}
 
 -- A file under new names that tell names apart runs as the file does, with the new names in its events.
 abbrev pub RenamedFilesRun : Type 0
-RenamedFilesRun = (n : Naming) (file : SourceFile) → RunsAs n.fun (event_image (images_of n)) file (file_renamed n file)
+RenamedFilesRun = (n : Naming) (ok : TellsNamesApart n) (file : SourceFile)
+    → RunsAs n.fun (event_image (images_of n ok)) file (file_renamed n file)
 
 -- Arguments that fit an entry fit it under its new name.
 abbrev pub RenamedFilesFit : Type 0
-RenamedFilesFit = (n : Naming) (file : SourceFile) → FitsAs n.fun file (file_renamed n file)
+RenamedFilesFit = (n : Naming) → TellsNamesApart n → (file : SourceFile) → FitsAs n.fun file (file_renamed n file)
 
 -- A layer and what is put in its place mean the same, whatever the file, and whatever calls mean.
 abbrev pub MeansTheSame : (Layer → Expr) → Type 0

@@ -17,7 +17,7 @@ use Rattle.krml_meaning.specs.declared.value.Value.{Value, out-Value, roll-Value
 use Rattle.krml_meaning.specs.declared.value.Value.TheFolds.{fold-Value}
 use Rattle.krml_meaning.specs.State.{Env}
 use Rattle.krml_meaning.specs.Meaning.{Function}
-use Rattle.krml_passing.specs.Images.{Images, value_renamed, value_under, vars_image}
+use Rattle.krml_passing.specs.Images.{Images, value_renamed, value_under, vars_under}
 use Rattle.krml_passing.specs.Alike.{Scopes}
 use Rattle.krml_rename.specs.Renaming.{Renaming, expr_renamed}
 
@@ -57,39 +57,68 @@ value_named field = fold-Value Value (λ y. roll-Value (value_renamed field y))
 abbrev pub TellsApart : (List ℕ → List ℕ) → Type 0
 TellsApart name = (x y : List ℕ) → bytes_eq (name x) (name y) ≡ bytes_eq x y
 
--- New names of the five kinds: of structs and sums, of constructors, of functions, of tables and of fields. Each kind is told
--- apart as before. Types, patterns and values are those under the new names.
+-- New names of the five kinds: of structs and sums, of constructors, of functions, of tables and of fields; and types, patterns
+-- and values under them.
 pub record Naming : Type 0 where
   pub named : List ℕ → List ℕ
   pub con : List ℕ → List ℕ
   pub fun : List ℕ → List ℕ
   pub table : List ℕ → List ℕ
   pub field : List ℕ → List ℕ
-  pub named_apart : TellsApart named
-  pub con_apart : TellsApart con
-  pub fun_apart : TellsApart fun
-  pub table_apart : TellsApart table
-  pub field_apart : TellsApart field
   pub ty : Ty → Ty
   pub pat : Pat → Pat
   pub value : Value → Value
-  pub out_ty : (a : Ty) → out-Ty (ty a) ≡ ty_under ty named (out-Ty a)
-  pub out_pat : (q : Pat) → out-Pat (pat q) ≡ pat_under pat con named (out-Pat q)
-  pub out_value : (x : Value) → out-Value (value x) ≡ value_under value field (out-Value x)
+
+-- by five functions
+abbrev pub naming : (named con fun table field : List ℕ → List ℕ) → Naming
+naming named con fun table field = record {
+  named = named;
+  con = con;
+  fun = fun;
+  table = table;
+  field = field;
+  ty = ty_named named;
+  pat = pat_named con named;
+  value = value_named field;
+}
+
+-- as they are
+abbrev pub unchanged : Naming
+unchanged = record {
+  named = λ x. x;
+  con = λ x. x;
+  fun = λ x. x;
+  table = λ x. x;
+  field = λ x. x;
+  ty = λ a. a;
+  pat = λ q. q;
+  value = λ x. x;
+}
+
+-- Each kind is told apart as before, and types, patterns and values have the new names in every layer.
+pub record TellsNamesApart (n : Naming) : Type 0 where
+  pub named_apart : TellsApart n.named
+  pub con_apart : TellsApart n.con
+  pub fun_apart : TellsApart n.fun
+  pub table_apart : TellsApart n.table
+  pub field_apart : TellsApart n.field
+  pub out_ty : (a : Ty) → out-Ty (n.ty a) ≡ ty_under n.ty n.named (out-Ty a)
+  pub out_pat : (q : Pat) → out-Pat (n.pat q) ≡ pat_under n.pat n.con n.named (out-Pat q)
+  pub out_value : (x : Value) → out-Value (n.value x) ≡ value_under n.value n.field (out-Value x)
+
+-- every end is kept, and tables stay in their places
+abbrev pub images_of : (n : Naming) → TellsNamesApart n → Images
+images_of n ok = record {
+  value = n.value;
+  field = n.field;
+  ty = n.ty;
+  place = λ k. k;
+  keeps = λ w. true;
+  out = ok.out_value;
+  apart = ok.field_apart;
+}
 
 module _ (n : Naming) where
-  -- every end is kept, and tables stay in their places
-  abbrev pub images_of : Images
-  images_of = record {
-    value = n.value;
-    field = n.field;
-    ty = n.ty;
-    place = λ k. k;
-    keeps = λ w. true;
-    out = n.out_value;
-    apart = n.field_apart;
-  }
-
   abbrev pub renaming_of : Renaming
   renaming_of = record {
     struct = λ x args. (n.named x, map n.ty args);
@@ -105,7 +134,7 @@ module _ (n : Naming) where
   -- ---- scopes
 
   abbrev pub env_image : Env → Env
-  env_image env = record { vars = vars_image images_of env.vars; tvars = env.tvars; targs = map n.ty env.targs; base = env.base }
+  env_image env = record { vars = vars_under n.value env.vars; tvars = env.tvars; targs = map n.ty env.targs; base = env.base }
 
   -- the second scope is the first under the new names
   abbrev pub under_names : Scopes
