@@ -14,26 +14,28 @@ use Rattle.krml_ast.specs.WellTyped.{WellTyped, AreWellTyped, type_name, con_nam
 use Rattle.krml_ast.specs.FileTypes.{IsSourceName, IsVariable, IsPlainName, IsEmitted, AreNamed, field_names, IsHoisted, IsBundled, emitted_name}
 use Rattle.krml_meaning.specs.Meaning.{has_entry}
 use Rattle.krml_bundle.specs.Emitted.{emitted_fun, emitted_type, emitted_table, emitted_field}
-use Rattle.krml_bundle.specs.Bundled.{def_bundled, bundled, names_of_def, names_of}
-use Rattle.krml_bundle.proofs.FormNames.{each_map, names_under, plain_prefix, emitted_shape, type_name_bundled, con_names_bundled, table_name_bundled, fun_name_bundled, field_names_bundled}
-use Rattle.krml_bundle.proofs.FormKept.{listed_kept, vars_kept}
+use Rattle.krml_bundle.specs.Bundled.{c_names, def_bundled, bundled, names_of_def, names_of}
+use Rattle.krml_passing.proofs.RenamedNames.{each_map, given_under, type_name_under, con_names_under, table_name_under, fun_name_under, field_names_under}
+use Rattle.krml_passing.proofs.RenamedForms.{listed_kept, vars_kept}
+use Rattle.krml_bundle.proofs.FormNames.{plain_prefix, emitted_shape}
+use Rattle.krml_bundle.proofs.Runs.{c_names_apart}
 
 -- ---- names
 
 -- the names of a kind, each of a shape under f
 each_named : (names : Def → List (List ℕ)) (f : List ℕ → List ℕ) (P Q : List ℕ → Type 0) → ((def : Def) → names (def_bundled def) ≡ map f (names def)) → ((x : List ℕ) → P x → Q (f x))
     → (defs : List Def) → AllByRecursion P (flat_map names defs) → AllByRecursion Q (flat_map names (map def_bundled defs))
-each_named names f P Q under k defs h = subst (AllByRecursion Q) (sym (names_under names f under defs)) (each_map f P Q (flat_map names defs) k h)
+each_named names f P Q under k defs h = subst (AllByRecursion Q) (sym (given_under c_names c_names_apart names f under defs)) (each_map c_names c_names_apart f P Q (flat_map names defs) k h)
 
 pub named_kept : (defs : List Def) → AreNamed IsSourceName IsSourceName IsName IsSourceName IsName IsVariable defs
     → AreNamed (IsEmitted (codes "s") (codes "s")) IsSourceName (IsPlainName (codes "t")) (IsEmitted (codes "f") (codes "g")) (IsPlainName (codes "m")) IsVariable (map def_bundled defs)
 named_kept defs n = record {
-  types = each_named type_name emitted_type IsSourceName (IsEmitted (codes "s") (codes "s")) type_name_bundled (emitted_shape (codes "s") (codes "s")) defs n.types;
-  cons = each_named con_names (λ x. x) IsSourceName IsSourceName con_names_bundled (λ x h. h) defs n.cons;
-  tables = each_named table_name emitted_table IsName (IsPlainName (codes "t")) table_name_bundled (plain_prefix (codes "t")) defs n.tables;
-  funs = each_named fun_name emitted_fun IsSourceName (IsEmitted (codes "f") (codes "g")) fun_name_bundled (emitted_shape (codes "f") (codes "g")) defs n.funs;
-  fields = each_named field_names emitted_field IsName (IsPlainName (codes "m")) field_names_bundled (plain_prefix (codes "m")) defs n.fields;
-  vars = subst (AllByRecursion IsVariable) (sym (vars_kept defs)) n.vars;
+  types = each_named type_name emitted_type IsSourceName (IsEmitted (codes "s") (codes "s")) (type_name_under c_names c_names_apart) (emitted_shape (codes "s") (codes "s")) defs n.types;
+  cons = each_named con_names (λ x. x) IsSourceName IsSourceName (con_names_under c_names c_names_apart) (λ x h. h) defs n.cons;
+  tables = each_named table_name emitted_table IsName (IsPlainName (codes "t")) (table_name_under c_names c_names_apart) (plain_prefix (codes "t")) defs n.tables;
+  funs = each_named fun_name emitted_fun IsSourceName (IsEmitted (codes "f") (codes "g")) (fun_name_under c_names c_names_apart) (emitted_shape (codes "f") (codes "g")) defs n.funs;
+  fields = each_named field_names emitted_field IsName (IsPlainName (codes "m")) (field_names_under c_names c_names_apart) (plain_prefix (codes "m")) defs n.fields;
+  vars = subst (AllByRecursion IsVariable) (sym (vars_kept c_names c_names_apart defs)) n.vars;
 }
 
 -- ---- entries
@@ -124,7 +126,7 @@ entries_distinct defs h = distinct_from [] defs (fresh_from defs [] defs h)
 
 pub is_bundled : (file : SourceFile) → IsHoisted file → IsBundled (bundled file) (names_of file)
 is_bundled file h = record {
-  listed = listed_kept file.defs h.listed;
+  listed = listed_kept c_names c_names_apart file.defs h.listed;
   named = named_kept file.defs h.named;
   emitted = emitted_names file.defs;
   entries = subst (IsDistinct bytes_eq) (sym (entry_names file.defs)) (entries_distinct file.defs h.listed.regular.typed);

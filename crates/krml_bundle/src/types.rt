@@ -1,10 +1,10 @@
 //! Types under the new names.
 
 ghost use Rattle.std.specs.Prelude.{◌≡◌, IfOk, map};
-ghost use Rattle.krml_bundle.specs.Bundled.{ty_bundled, slot_bundled};
+ghost use Rattle.krml_bundle.specs.Bundled.{ty_bundled};
 
 use crate::new_names::emitted_type;
-use krml_syntax::{Slot, Ty};
+use krml_syntax::Ty;
 use krml_trace::{Box, NoMemory, Seq};
 use std::alloc::Global;
 
@@ -37,18 +37,6 @@ pub(crate) fn types_bundled(alloc: Global, types: &[Ty]) -> Result<Seq<Ty>, NoMe
     let mut all = Seq::new(alloc);
     for ty in types {
         all.push(ty_bundled(alloc, ty)?)?;
-    }
-    Ok(all)
-}
-
-/// Slots whose types have the new names.
-pub(crate) fn slots_bundled(alloc: Global, slots: &[Slot]) -> Result<Seq<Slot>, NoMemory>
-    ensures { IfOk result (λ r. r ≡ map slot_bundled slots.now) }
-{
-    let mut all = Seq::new(alloc);
-    for slot in slots {
-        let ty = ty_bundled(alloc, &slot.ty)?;
-        all.push(Slot { ty, len: slot.len })?;
     }
     Ok(all)
 }

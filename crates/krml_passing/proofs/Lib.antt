@@ -1,6 +1,6 @@
+mod ExampleSwap
 pub mod Alike
 pub mod Changing
-mod ExampleSwap
 pub mod Forms
 pub mod Lookups
 pub mod Named
@@ -9,6 +9,13 @@ pub mod Numbered
 pub mod Passes
 pub mod Patterns
 pub mod Renamed
+pub mod RenamedDefs
+pub mod RenamedForms
+pub mod RenamedLayers
+pub mod RenamedNames
+pub mod RenamedPieces
+pub mod RenamedTypes
+pub mod RenamedTyping
 pub mod RunsAs
 pub mod Starts
 pub mod Typed

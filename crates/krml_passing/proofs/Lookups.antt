@@ -25,7 +25,7 @@ use Rattle.krml_passing.specs.Images.{Images}
 use Rattle.krml_passing.specs.Naming.{Naming, TellsNamesApart, ty_under, images_of, field_under, param_under, con_under, def_under, function_under}
 use Rattle.krml_passing.proofs.Values as is
 
-image_if : {X Y : Type 0} (g : X → Y) {b c : Bool} → c ≡ b → (v : X) → (if c then Some (g v) else None) ≡ option_map g (if b then Some v else None)
+pub image_if : {X Y : Type 0} (g : X → Y) {b c : Bool} → c ≡ b → (v : X) → (if c then Some (g v) else None) ≡ option_map g (if b then Some v else None)
 image_if g {b = b} e v = ap (λ z. if z then Some (g v) else None) e ∙ map_if g b v
 
 module _ (n : Naming) (ok : TellsNamesApart n) where
@@ -34,29 +34,29 @@ module _ (n : Naming) (ok : TellsNamesApart n) where
   ty_is : (a : Ty) → n.ty a ≡ roll-Ty (ty_under n.ty n.named (out-Ty a))
   ty_is a = sym (roll-out-Ty (n.ty a)) ∙ ap roll-Ty (ok.out_ty a)
 
-  pub bool_ty : n.ty t.Bool ≡ t.Bool
-  bool_ty = ty_is t.Bool ∙ ap (λ o. roll-Ty (ty_under n.ty n.named o)) t.outs-Bool ∙ t.rolls-Bool
+  pub bool_under : n.ty t.Bool ≡ t.Bool
+  bool_under = ty_is t.Bool ∙ ap (λ o. roll-Ty (ty_under n.ty n.named o)) t.outs-Bool ∙ t.rolls-Bool
 
-  pub unit_ty : n.ty t.Unit ≡ t.Unit
-  unit_ty = ty_is t.Unit ∙ ap (λ o. roll-Ty (ty_under n.ty n.named o)) t.outs-Unit ∙ t.rolls-Unit
+  pub unit_under : n.ty t.Unit ≡ t.Unit
+  unit_under = ty_is t.Unit ∙ ap (λ o. roll-Ty (ty_under n.ty n.named o)) t.outs-Unit ∙ t.rolls-Unit
 
-  pub int_ty : (i : IntTy) → n.ty (t.Int i) ≡ t.Int i
-  int_ty i = ty_is (t.Int i) ∙ ap (λ o. roll-Ty (ty_under n.ty n.named o)) (t.outs-Int i) ∙ t.rolls-Int i
+  pub int_under : (i : IntTy) → n.ty (t.Int i) ≡ t.Int i
+  int_under i = ty_is (t.Int i) ∙ ap (λ o. roll-Ty (ty_under n.ty n.named o)) (t.outs-Int i) ∙ t.rolls-Int i
 
-  pub buf_ty : (a : Ty) → n.ty (t.Buf a) ≡ t.Buf (n.ty a)
-  buf_ty a = ty_is (t.Buf a) ∙ ap (λ o. roll-Ty (ty_under n.ty n.named o)) (t.outs-Buf a) ∙ t.rolls-Buf (n.ty a)
+  pub buf_under : (a : Ty) → n.ty (t.Buf a) ≡ t.Buf (n.ty a)
+  buf_under a = ty_is (t.Buf a) ∙ ap (λ o. roll-Ty (ty_under n.ty n.named o)) (t.outs-Buf a) ∙ t.rolls-Buf (n.ty a)
 
-  pub var_ty : (x : List ℕ) → n.ty (t.Var x) ≡ t.Var x
-  var_ty x = ty_is (t.Var x) ∙ ap (λ o. roll-Ty (ty_under n.ty n.named o)) (t.outs-Var x) ∙ t.rolls-Var x
+  pub var_under : (x : List ℕ) → n.ty (t.Var x) ≡ t.Var x
+  var_under x = ty_is (t.Var x) ∙ ap (λ o. roll-Ty (ty_under n.ty n.named o)) (t.outs-Var x) ∙ t.rolls-Var x
 
-  pub named_ty : (x : List ℕ) (args : List Ty) → n.ty (t.Named x args) ≡ t.Named (n.named x) (map n.ty args)
-  named_ty x args = ty_is (t.Named x args) ∙ ap (λ o. roll-Ty (ty_under n.ty n.named o)) (t.outs-Named x args)
+  pub named_under : (x : List ℕ) (args : List Ty) → n.ty (t.Named x args) ≡ t.Named (n.named x) (map n.ty args)
+  named_under x args = ty_is (t.Named x args) ∙ ap (λ o. roll-Ty (ty_under n.ty n.named o)) (t.outs-Named x args)
       ∙ t.rolls-Named (n.named x) (map n.ty args)
 
   argument_under : (vars : List (List ℕ)) (args : List Ty) (x : List ℕ) → argument_of vars (map n.ty args) x
       ≡ n.ty (argument_of vars args x)
-  argument_under [] args x = sym (var_ty x)
-  argument_under (y ∷ vars) [] x = sym (var_ty x)
+  argument_under [] args x = sym (var_under x)
+  argument_under (y ∷ vars) [] x = sym (var_under x)
   argument_under (y ∷ vars) (a ∷ args) x = rw (argument_under vars args x) (go (bytes_eq y x))
     where
       go : (b : Bool) → (if b then n.ty a else n.ty (argument_of vars args x)) ≡ n.ty (if b then a else argument_of vars args x)
@@ -75,17 +75,17 @@ module _ (n : Naming) (ok : TellsNamesApart n) where
           ∙ ap (λ z. n.ty (type_at vars args (w x)) ∷ z) (all_under_at xs)
 
       step_under_at : (y : Ty-F X) → UnderAt (roll-Ty (map-Ty X Ty w y))
-      step_under_at Ty-F.Bool = rw t.rolls-Bool (rw (at_bool vars args, bool_ty, at_bool vars (map n.ty args)) refl)
-      step_under_at Ty-F.Unit = rw t.rolls-Unit (rw (at_unit vars args, unit_ty, at_unit vars (map n.ty args)) refl)
-      step_under_at (Ty-F.Int i) = rw (t.rolls-Int i) (rw (at_int vars args i, int_ty i, at_int vars (map n.ty args) i) refl)
+      step_under_at Ty-F.Bool = rw t.rolls-Bool (rw (at_bool vars args, bool_under, at_bool vars (map n.ty args)) refl)
+      step_under_at Ty-F.Unit = rw t.rolls-Unit (rw (at_unit vars args, unit_under, at_unit vars (map n.ty args)) refl)
+      step_under_at (Ty-F.Int i) = rw (t.rolls-Int i) (rw (at_int vars args i, int_under i, at_int vars (map n.ty args) i) refl)
       step_under_at (Ty-F.Buf x) = rw (t.rolls-Buf (w x))
-          (rw (at_buf vars args (w x), buf_ty (type_at vars args (w x)), buf_ty (w x), at_buf vars (map n.ty args) (n.ty (w x)), h x) refl)
-      step_under_at (Ty-F.Var x) = rw (t.rolls-Var x) (rw (at_var vars args x, var_ty x, at_var vars (map n.ty args) x)
+          (rw (at_buf vars args (w x), buf_under (type_at vars args (w x)), buf_under (w x), at_buf vars (map n.ty args) (n.ty (w x)), h x) refl)
+      step_under_at (Ty-F.Var x) = rw (t.rolls-Var x) (rw (at_var vars args x, var_under x, at_var vars (map n.ty args) x)
           (argument_under vars args x))
       step_under_at (Ty-F.Named x xs) = rw (t.rolls-Named x (map w xs)) (rw (
         at_named vars args x (map w xs),
-        named_ty x (map (type_at vars args) (map w xs)),
-        named_ty x (map w xs),
+        named_under x (map (type_at vars args) (map w xs)),
+        named_under x (map w xs),
         at_named vars (map n.ty args) (n.named x) (map n.ty (map w xs)),
       ) (ap (λ z. t.Named (n.named x) z) (all_under_at xs)))
 

@@ -31,7 +31,7 @@ use Rattle.krml_passing.proofs.Forms.{SameCon, SameZero, table_image}
 use Rattle.krml_passing.proofs.Renamed.{ScopesKept, Kept, PatKept, renamed_same}
 use Rattle.krml_passing.proofs.RunsAs.{CallsAlike, enter_alike, runs_as, fits_as, start_image}
 use Rattle.krml_passing.proofs.Starts.{FitsAlike, starts_alike}
-use Rattle.krml_passing.proofs.Lookups.{to, int_ty, ty_at, place_under, fields_of_under, con_place_under, table_from_under, function_named_under, has_entry_under, zero_value_under}
+use Rattle.krml_passing.proofs.Lookups.{to, int_under, ty_at, place_under, fields_of_under, con_place_under, table_from_under, function_named_under, has_entry_under, zero_value_under}
 use Rattle.krml_passing.proofs.Patterns.{takes_under}
 
 itself : {A : Type 0} (o : Option A) → o ≡ option_map (λ a. a) o
@@ -107,7 +107,7 @@ module _ (n : Naming) (ok : TellsNamesApart n) where
 
   -- ---- arguments
 
-  fits_under_ty : FitsAlike im (λ i. int_ty n ok i) n.ty
+  fits_under_ty : FitsAlike im (λ i. int_under n ok i) n.ty
   fits_under_ty x a b = ap (src.passing x a) (ok.out_ty b) ∙ go x a (out-Ty b)
     where
       buffer : (x : List ℕ) (w : Width) (nums : List ℕ) (o : Ty-F Ty) → src.buffer_for x w nums (ty_under n.ty n.named o)
@@ -152,7 +152,7 @@ module _ (n : Naming) (ok : TellsNamesApart n) where
     pub starts_under : (file : SourceFile) (entry : List ℕ) (args : List Arg)
         → src.start (file_under n body file) (n.fun entry) args
         ≡ option_map (start_image im (function_under n body)) (src.start file entry args)
-    starts_under file = starts_alike im (λ i. int_ty n ok i) n.ty fits_under_ty (function_under n body) (λ f. refl) file
+    starts_under file = starts_alike im (λ i. int_under n ok i) n.ty fits_under_ty (function_under n body) (λ f. refl) file
         (file_under n body file) n.fun
         (has_entry_under n ok body file.defs) (λ x e. function_named_under n ok body file.defs x)
 

@@ -9,6 +9,10 @@ use Rattle.krml_syntax.specs.declared.tree.Con.{Con}
 use Rattle.krml_syntax.specs.declared.tree.Pat.{Pat, out-Pat, roll-Pat, map-Pat}
 use Rattle.krml_syntax.specs.declared.tree.Pat.TheOpen.{Pat-F}
 use Rattle.krml_syntax.specs.declared.tree.Pat.TheFolds.{fold-Pat}
+use Rattle.krml_syntax.specs.declared.tree.Slot.{Slot}
+use Rattle.krml_syntax.specs.declared.tree.Arm.{Arm}
+use Rattle.krml_syntax.specs.declared.tree.Case.{Case}
+use Rattle.krml_syntax.specs.declared.tree.Item.{Item}
 use Rattle.krml_syntax.specs.declared.tree.Expr.{Expr}
 use Rattle.krml_syntax.specs.declared.tree.Def.{Def}
 use Rattle.krml_syntax.specs.declared.tree.Def.TheVariants as d
@@ -19,7 +23,8 @@ use Rattle.krml_meaning.specs.State.{Env}
 use Rattle.krml_meaning.specs.Meaning.{Function}
 use Rattle.krml_passing.specs.Images.{Images, value_renamed, value_under, vars_under}
 use Rattle.krml_passing.specs.Alike.{Scopes}
-use Rattle.krml_rename.specs.Renaming.{Renaming, expr_renamed}
+use Rattle.krml_rename.specs.Pass.{item_passed, arm_passed, case_passed}
+use Rattle.krml_rename.specs.Renaming.{Renaming, slot_renamed, renaming, expr_renamed}
 
 -- ---- types, patterns and values, layer by layer
 
@@ -131,6 +136,21 @@ module _ (n : Naming) where
     pat = n.pat;
   }
 
+  abbrev pub slot_under : Slot → Slot
+  slot_under = slot_renamed renaming_of
+
+  abbrev pub expr_under : Expr → Expr
+  expr_under = expr_renamed renaming_of
+
+  abbrev pub item_under : Item → Item
+  item_under = item_passed (renaming renaming_of)
+
+  abbrev pub arm_under : Arm → Arm
+  arm_under = arm_passed (renaming renaming_of)
+
+  abbrev pub case_under : Case → Case
+  case_under = case_passed (renaming renaming_of)
+
   -- ---- scopes
 
   abbrev pub env_image : Env → Env
@@ -166,6 +186,9 @@ module _ (n : Naming) where
     abbrev pub function_under : Function → Function
     function_under f = record { tvars = f.tvars; params = map param_under f.params; body = body f.body }
 
-  -- a file under the new names
+  -- a definition, and a file, under the new names
+  abbrev pub def_renamed : Def → Def
+  def_renamed = def_under expr_under
+
   abbrev pub file_renamed : SourceFile → SourceFile
-  file_renamed = file_under (expr_renamed renaming_of)
+  file_renamed = file_under expr_under
