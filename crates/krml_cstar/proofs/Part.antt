@@ -1,6 +1,5 @@
 -- The part of the language that is built: its types, and what its definitions keep.
 use Rattle.std.proofs.Common.{◌≡◌, ℕ, suc, Bool, true, false, not, ◌&&◌, if◌then◌else◌, List, [], ◌∷◌, map, length, Some, None, refl, sym, ap, ◌∙◌, subst, arith}
-use Rattle.std.specs.Option.{option_or}
 use Rattle.std.specs.List.{AllByRecursion, IsDistinct}
 use Rattle.std.specs.Str.{bytes_eq}
 use Rattle.std.proofs.lemmas.Bool.{eqb-true, and_parts}
@@ -18,12 +17,13 @@ use Rattle.krml_syntax.specs.Types.{public, erased, type_at}
 use Rattle.krml_ast.specs.IsType.{IsValue, IsType}
 use Rattle.krml_ast.specs.Typing.{at, fields_at}
 use Rattle.krml_ast.specs.WellTyped.{names_of, WellTyped, AreWellTyped}
+use Rattle.krml_ast.proofs.Named.{struct_stands, sum_stands, table_stands, fun_stands}
 use Rattle.krml_meaning.specs.Meaning as src
-use Rattle.krml_meaning.proofs.Lists.{same_some, no_some, each_so}
+use Rattle.krml_meaning.proofs.Lists.{same_answer, each_get, each_so}
 use Rattle.krml_meaning.proofs.Facts.{same_struct}
 use Rattle.krml_syntax.proofs.Types.{erased_bool, erased_unit, erased_int, erased_named, at_bool, at_unit, at_int, at_named}
 use Rattle.krml_meaning.proofs.Flat.{by_form}
-use Rattle.krml_meaning.proofs.Files.{each_def}
+use Rattle.krml_meaning.proofs.Files.{fun_found, each_def}
 use Rattle.krml_cstar.specs.Built.{is_public, is_empty, level_ty_built, is_ty_built, are_fields_built, is_expr_built, is_built, AreBuilt}
 
 -- ---- types
@@ -84,72 +84,24 @@ types_here vars args fields e = fields_at_built vars args fields e ∙ sym (fiel
 
 module _ (P : Def → Type 0) where
   pub at_struct : (defs : List Def) (x : List ℕ) (vars : List (List ℕ)) (fields : List Field) → AllByRecursion P defs → type_named defs x ≡ Some (Struct vars fields) → P (d.Struct x vars fields)
-  at_struct [] x vars fields h e = absurd (no_some (Struct vars fields) e)
-  at_struct (d.Struct name vs fs ∷ defs) x vars fields h e = go (bytes_eq name x) refl e (at_struct defs x vars fields h.1)
-    where
-      go : (b : Bool) → bytes_eq name x ≡ b → option_or (if b then Some (Struct vs fs) else None) (type_named defs x) ≡ Some (Struct vars fields)
-          → (type_named defs x ≡ Some (Struct vars fields) → P (d.Struct x vars fields)) → P (d.Struct x vars fields)
-      go true q e' later =
-          let same = same_struct vs vars fs fields (same_some (Struct vs fs) (Struct vars fields) e') in
-          subst (λ z. P (d.Struct x vars z)) same.1 (subst (λ z. P (d.Struct x z fs)) same.0 (subst (λ z. P (d.Struct z vs fs)) ((bytes_eq-Decides name x).0 q) h.0))
-      go false q e' later = later e'
-  at_struct (d.Sum name vs cons ∷ defs) x vars fields h e = go (bytes_eq name x) e (at_struct defs x vars fields h.1)
-    where
-      go : (b : Bool) → option_or (if b then Some (Sum vs cons) else None) (type_named defs x) ≡ Some (Struct vars fields)
-          → (type_named defs x ≡ Some (Struct vars fields) → P (d.Struct x vars fields)) → P (d.Struct x vars fields)
-      go true e' later = absurd (cc)
-      go false e' later = later e'
-  at_struct (d.Table name ty nums ∷ defs) x vars fields h e = at_struct defs x vars fields h.1 e
-  at_struct (d.Fun name vs params result body ∷ defs) x vars fields h e = at_struct defs x vars fields h.1 e
-  at_struct (d.Entry name ∷ defs) x vars fields h e = at_struct defs x vars fields h.1 e
+  at_struct defs x vars fields h e = let s = struct_stands defs x vars fields e in each_get P defs s.0 (d.Struct x vars fields) h s.1
 
   pub at_function : (defs : List Def) (x : List ℕ) (f : Signature) (fun : src.Function) → AllByRecursion P defs → fun_named defs x ≡ Some f → src.function_named defs x ≡ Some fun
       → P (d.Fun x f.vars f.params f.result fun.body)
-  at_function [] x f fun h e q = absurd (no_some f e)
-  at_function (d.Fun name vs params result body ∷ defs) x f fun h e q = go (bytes_eq name x) refl e q (at_function defs x f fun h.1)
-    where
-      go : (b : Bool) → bytes_eq name x ≡ b → option_or (if b then Some (record { vars = vs; params = params; result = result }) else None) (fun_named defs x) ≡ Some f
-          → option_or (if b then Some (record { tvars = vs; params = params; body = body }) else None) (src.function_named defs x) ≡ Some fun
-          → (fun_named defs x ≡ Some f → src.function_named defs x ≡ Some fun → P (d.Fun x f.vars f.params f.result fun.body)) → P (d.Fun x f.vars f.params f.result fun.body)
-      go true is e' q' later =
-          let same : record { vars = vs; params = params; result = result } ≡ f = same_some (record { vars = vs; params = params; result = result }) f e' in
-          let alike : record { tvars = vs; params = params; body = body } ≡ fun = same_some (record { tvars = vs; params = params; body = body }) fun q' in
-          subst (λ (z : src.Function). P (d.Fun x f.vars f.params f.result z.body)) alike (subst (λ (z : Signature). P (d.Fun x z.vars z.params z.result body)) same
-          (subst (λ z. P (d.Fun z vs params result body)) ((bytes_eq-Decides name x).0 is) h.0))
-      go false is e' q' later = later e' q'
-  at_function (d.Struct name vs fields ∷ defs) x f fun h e q = at_function defs x f fun h.1 e q
-  at_function (d.Sum name vs cons ∷ defs) x f fun h e q = at_function defs x f fun h.1 e q
-  at_function (d.Table name ty nums ∷ defs) x f fun h e q = at_function defs x f fun h.1 e q
-  at_function (d.Entry name ∷ defs) x f fun h e q = at_function defs x f fun h.1 e q
+  at_function defs x f fun h e q =
+      let g = fun_found defs x f e in
+      subst (λ (z : src.Function). P (d.Fun x f.vars f.params f.result z.body)) (same_answer (src.function_named defs x) (record { tvars = f.vars; params = f.params; body = g.body }) fun g.is q)
+      (each_get P defs g.place (d.Fun x f.vars f.params f.result g.body) h g.there)
 
   -- a table, with its numbers
   pub at_table : (defs : List Def) (x : List ℕ) (i : IntTy) → AllByRecursion P defs → table_named defs x ≡ Some i → (nums : List ℕ) × P (d.Table x i nums)
-  at_table [] x i h e = absurd (no_some i e)
-  at_table (d.Table name ty nums ∷ defs) x i h e = go (bytes_eq name x) refl e (at_table defs x i h.1)
-    where
-      go : (b : Bool) → bytes_eq name x ≡ b → option_or (if b then Some ty else None) (table_named defs x) ≡ Some i → (table_named defs x ≡ Some i → (nums : List ℕ) × P (d.Table x i nums))
-          → (nums : List ℕ) × P (d.Table x i nums)
-      go true q e' later = (nums, subst (λ z. P (d.Table x z nums)) (same_some ty i e') (subst (λ z. P (d.Table z ty nums)) ((bytes_eq-Decides name x).0 q) h.0))
-      go false q e' later = later e'
-  at_table (d.Struct name vs fields ∷ defs) x i h e = at_table defs x i h.1 e
-  at_table (d.Sum name vs cons ∷ defs) x i h e = at_table defs x i h.1 e
-  at_table (d.Fun name vs params result body ∷ defs) x i h e = at_table defs x i h.1 e
-  at_table (d.Entry name ∷ defs) x i h e = at_table defs x i h.1 e
+  at_table defs x i h e = let s = table_stands defs x i e in (s.0, each_get P defs s.1.0 (d.Table x i s.0) h s.1.1)
 
 -- ---- the definitions of a file that is built
 
 -- there is no sum
 pub no_sum : (defs : List Def) → AreBuilt defs → (x : List ℕ) (vars : List (List ℕ)) (cons : List Con) → type_named defs x ≡ Some (Sum vars cons) → ⊥
-no_sum [] h x vars cons e = no_some (Sum vars cons) e
-no_sum (d.Struct name vs fs ∷ defs) h x vars cons e = go (bytes_eq name x) e (no_sum defs h.1 x vars cons)
-  where
-    go : (b : Bool) → option_or (if b then Some (Struct vs fs) else None) (type_named defs x) ≡ Some (Sum vars cons) → (type_named defs x ≡ Some (Sum vars cons) → ⊥) → ⊥
-    go true e' later = cc
-    go false e' later = later e'
-no_sum (d.Sum name vs cs ∷ defs) h x vars cons e = let h0 : false ≡ true = h.0 in cc
-no_sum (d.Table name ty nums ∷ defs) h x vars cons e = no_sum defs h.1 x vars cons e
-no_sum (d.Fun name vs params result body ∷ defs) h x vars cons e = no_sum defs h.1 x vars cons e
-no_sum (d.Entry name ∷ defs) h x vars cons e = no_sum defs h.1 x vars cons e
+no_sum defs h x vars cons e = let s = sum_stands defs x vars cons e in let built = each_get (λ def. is_built def ≡ true) defs s.0 (d.Sum x vars cons) h s.1 in cc
 
 -- a struct has no type variables, and its fields are values of types that are built, with names that differ
 pub record StructBuilt (vars : List (List ℕ)) (fields : List Field) : Type 0 where

@@ -140,7 +140,7 @@ first_is defs x (d.Fun name vars params result body ∷ ds) f fun e q ans = go (
     go : (b : Bool) → bytes_eq name x ≡ b → option_or (if b then Some (record { vars = vars; params = params; result = result }) else None) (fun_named ds x) ≡ Some f
         → option_or (if b then Some (record { tvars = vars; params = params; body = body }) else None) (src.function_named ds x) ≡ Some fun
         → (fun_named ds x ≡ Some f → src.function_named ds x ≡ Some fun → tgt.first_named (flat_map (funs_of defs) ds) x ≡ Some (fun_code defs x f.params f.result fun.body))
-        → (if b && tgt.gives_scalar (if is_unit result then None else Some (ctype result)) then Some (fun_code defs name params result body) else tgt.first_named (flat_map (funs_of defs) ds) x)
+        → option_or (if b && tgt.gives_scalar (if is_unit result then None else Some (ctype result)) then Some (fun_code defs name params result body) else None) (tgt.first_named (flat_map (funs_of defs) ds) x)
         ≡ Some (fun_code defs x f.params f.result fun.body)
     go true is e' q' later =
         let same : record { vars = vars; params = params; result = result } ≡ f = same_some (record { vars = vars; params = params; result = result }) f e' in

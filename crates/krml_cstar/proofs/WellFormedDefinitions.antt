@@ -2,12 +2,11 @@
 use Rattle.std.proofs.Common.{◌≡◌, ℕ, ◌<◌, ◌^◌, Bool, true, false, ◌&&◌, if◌then◌else◌, List, [], ◌∷◌, ◌++◌, map, flat_map, codes, Contains, Some, None, refl, sym, ap, ◌∙◌, subst, inl, inr, append_assoc}
 use Rattle.std.proofs.lemmas.Bool.{and_parts}
 use Rattle.std.proofs.lemmas.Slice.Eq.{bytes_eq-Decides}
-use Rattle.std.specs.Option.{option_or}
 use Rattle.std.specs.Fmt.{decimal}
 use Rattle.std.specs.List.{AllByRecursion}
 use Rattle.std.specs.Str.{bytes_eq}
 use Rattle.krml_trace.specs.Width.{bits}
-use Rattle.krml_trace.proofs.Lists.{contains_first, contains_later}
+use Rattle.krml_trace.proofs.Lists.{contains_first, contains_flat}
 use Rattle.krml_syntax.specs.declared.tree.IntTy.{IntTy}
 use Rattle.krml_syntax.specs.declared.tree.Ty.{Ty}
 use Rattle.krml_syntax.specs.declared.tree.Ty.TheVariants as t
@@ -15,20 +14,21 @@ use Rattle.krml_syntax.specs.declared.tree.Field.{Field}
 use Rattle.krml_syntax.specs.declared.tree.Expr.{Expr}
 use Rattle.krml_syntax.specs.declared.tree.Def.{Def}
 use Rattle.krml_syntax.specs.declared.tree.Def.TheVariants as d
-use Rattle.krml_ast.specs.Names.{Composite, Struct, Signature, type_named, table_named, fun_named}
+use Rattle.krml_ast.specs.Names.{Composite, Struct, Sum, Signature, type_named, table_named, fun_named}
 use Rattle.krml_syntax.specs.Types.{erased}
 use Rattle.krml_ast.specs.IsType.{IsValue, IsType}
 use Rattle.krml_ast.specs.Typing.{HasType}
 use Rattle.krml_ast.specs.WellTyped.{WellTyped, AreWellTyped, type_name, table_name, fun_name}
 use Rattle.krml_ast.specs.FileTypes.{IsPlainName, IsEmitted, HasSize, field_names}
 use Rattle.krml_ast.specs.Pieces.{pieces_of_def}
+use Rattle.krml_ast.proofs.Named.{struct_stands, sum_stands, table_stands, fun_stands}
 use Rattle.krml_ctree.specs.declared.tree.CStruct.{CStruct}
 use Rattle.krml_ctree.specs.declared.tree.CTable.{CTable}
 use Rattle.krml_ctree.specs.declared.tree.CFun.{CFun}
 use Rattle.krml_ctree.specs.declared.tree.CProgram.{CProgram}
 use Rattle.krml_ctree.specs.Shape.{IsPlain, TypeKeeps, IsStruct, IsTable, IsFunction, IsField}
 use Rattle.krml_ctree.specs.WellFormed.{IsKnown}
-use Rattle.krml_meaning.proofs.Lists.{same_some, no_some, each_so, each_append, each_left, each_right}
+use Rattle.krml_meaning.proofs.Lists.{each_get, each_so, each_append, each_left, each_right}
 use Rattle.krml_syntax.proofs.Types.{at_none}
 use Rattle.krml_meaning.proofs.Files.{facts}
 use Rattle.krml_cstar.specs.Built.{is_ty_built, is_empty, are_fields_built, is_expr_built, is_built}
@@ -145,28 +145,16 @@ record StructThere (structs : List CStruct) (x : List ℕ) (c : Composite) : Typ
   shape : IsStruct x
 
 struct_there : (defs ds : List Def) (x : List ℕ) (c : Composite) → AllByRecursion (DefFits defs) ds → type_named ds x ≡ Some c → StructThere (flat_map structs_of ds) x c
-struct_there defs [] x c h e = absurd (no_some c e)
-struct_there defs (d.Struct name vars fields ∷ ds) x c h e = go (bytes_eq name x) refl e (struct_there defs ds x c h.1)
-  where
-    s : CStruct
-    s = record { name = name; fields = fields_of fields }
-
-    go : (b : Bool) → bytes_eq name x ≡ b → option_or (if b then Some (Struct vars fields) else None) (type_named ds x) ≡ Some c → (type_named ds x ≡ Some c → StructThere (flat_map structs_of ds) x c)
-        → StructThere (s ∷ flat_map structs_of ds) x c
-    go true q k more =
-        let same : name ≡ x = (bytes_eq-Decides name x).0 q in
-        let none = (struct_built name vars fields h.0.built).0 in
-        record {
-          fields = fields;
-          is = sym (same_some (Struct vars fields) c k) ∙ ap (λ vs. Struct vs fields) none;
-          there = subst (λ z. Contains (s ∷ flat_map structs_of ds) (record { name = z; fields = fields_of fields })) same (contains_first s (flat_map structs_of ds));
-          shape = subst IsStruct same h.0.types.0;
-        }
-    go false q k more = let m = more k in record { fields = m.fields; is = m.is; there = contains_later s _ (flat_map structs_of ds) m.there; shape = m.shape }
-struct_there defs (d.Sum name vars cons ∷ ds) x c h e = let b = h.0.built in absurd (cc)
-struct_there defs (d.Table name i nums ∷ ds) x c h e = struct_there defs ds x c h.1 e
-struct_there defs (d.Fun name vars params result body ∷ ds) x c h e = struct_there defs ds x c h.1 e
-struct_there defs (d.Entry name ∷ ds) x c h e = struct_there defs ds x c h.1 e
+struct_there defs ds x (Struct vars fields) h e =
+    let s = struct_stands ds x vars fields e in
+    let fits = each_get (DefFits defs) ds s.0 (d.Struct x vars fields) h s.1 in
+    record {
+      fields = fields;
+      is = ap (λ vs. Struct vs fields) (struct_built x vars fields fits.built).0;
+      there = contains_flat structs_of ds s.0 (d.Struct x vars fields) (record { name = x; fields = fields_of fields }) s.1 (contains_first _ []);
+      shape = fits.types.0;
+    }
+struct_there defs ds x (Sum vars cons) h e = let s = sum_stands ds x vars cons e in let b = (each_get (DefFits defs) ds s.0 (d.Sum x vars cons) h s.1).built in absurd (cc)
 
 -- structs are among others
 abbrev pub Among : List CStruct → List CStruct → Type 0
@@ -206,22 +194,10 @@ module _ (defs : List Def) where
     shapes : AllByRecursion IsField (map (λ f. f.name) fields)
 
   struct_def : (ds : List Def) (x : List ℕ) (vars : List (List ℕ)) (fields : List Field) → AllByRecursion (DefFits defs) ds → type_named ds x ≡ Some (Struct vars fields) → StructDef x vars fields
-  struct_def [] x vars fields h e = absurd (cc)
-  struct_def (d.Struct name vs fs ∷ ds) x vars fields h e = go (bytes_eq name x) e (struct_def ds x vars fields h.1)
-    where
-      here : StructDef x vs fs
-      here = record { values = h.0.typed; built = (struct_built name vs fs h.0.built).1; shapes = h.0.fields }
-
-      go : (b : Bool) → option_or (if b then Some (Struct vs fs) else None) (type_named ds x) ≡ Some (Struct vars fields) → (type_named ds x ≡ Some (Struct vars fields) → StructDef x vars fields) → StructDef x vars fields
-      go true k more =
-          let same : fs ≡ fields = cc in
-          let same' : vs ≡ vars = cc in
-          subst (λ z. StructDef x z fields) same' (subst (λ z. StructDef x vs z) same here)
-      go false k more = more k
-  struct_def (d.Sum name vs cons ∷ ds) x vars fields h e = let b = h.0.built in absurd (cc)
-  struct_def (d.Table name i nums ∷ ds) x vars fields h e = struct_def ds x vars fields h.1 e
-  struct_def (d.Fun name vs params result body ∷ ds) x vars fields h e = struct_def ds x vars fields h.1 e
-  struct_def (d.Entry name ∷ ds) x vars fields h e = struct_def ds x vars fields h.1 e
+  struct_def ds x vars fields h e =
+      let s = struct_stands ds x vars fields e in
+      let fits = each_get (DefFits defs) ds s.0 (d.Struct x vars fields) h s.1 in
+      record { values = fits.typed; built = (struct_built x vars fields fits.built).1; shapes = fits.fields }
 
   -- the definition of a table
   record TableThere (tables : List CTable) (x : List ℕ) (i : IntTy) : Type 0 where
@@ -232,22 +208,11 @@ module _ (defs : List Def) where
     shape : IsTable x
 
   table_there : (ds : List Def) (x : List ℕ) (i : IntTy) → AllByRecursion (DefFits defs) ds → table_named ds x ≡ Some i → TableThere (flat_map tables_of ds) x i
-  table_there [] x i h e = absurd (no_some i e)
-  table_there (d.Table name j nums ∷ ds) x i h e = go (bytes_eq name x) refl e (table_there ds x i h.1)
-    where
-      table : CTable
-      table = record { name = name; width = j.width; nums = nums }
-
-      go : (b : Bool) → bytes_eq name x ≡ b → option_or (if b then Some j else None) (table_named ds x) ≡ Some i → (table_named ds x ≡ Some i → TableThere (flat_map tables_of ds) x i)
-          → TableThere (table ∷ flat_map tables_of ds) x i
-      go true q k more =
-          let same : name ≡ x = (bytes_eq-Decides name x).0 q in
-          record { table = table; there = contains_first table (flat_map tables_of ds); name = same; width = ap (λ (z : IntTy). z.width) (same_some j i k); shape = subst IsTable same h.0.tables.0 }
-      go false q k more = let m = more k in record { table = m.table; there = contains_later table m.table (flat_map tables_of ds) m.there; name = m.name; width = m.width; shape = m.shape }
-  table_there (d.Struct name vs fs ∷ ds) x i h e = table_there ds x i h.1 e
-  table_there (d.Sum name vs cons ∷ ds) x i h e = table_there ds x i h.1 e
-  table_there (d.Fun name vs params result body ∷ ds) x i h e = table_there ds x i h.1 e
-  table_there (d.Entry name ∷ ds) x i h e = table_there ds x i h.1 e
+  table_there ds x i h e =
+      let s = table_stands ds x i e in
+      let fits = each_get (DefFits defs) ds s.1.0 (d.Table x i s.0) h s.1.1 in
+      let table : CTable = record { name = x; width = i.width; nums = s.0 } in
+      record { table = table; there = contains_flat tables_of ds s.1.0 (d.Table x i s.0) table s.1.1 (contains_first table []); name = refl; width = refl; shape = fits.tables.0 }
 
   -- the definition of a function
   record FunThere (funs : List CFun) (x : List ℕ) (f : Signature) : Type 0 where
@@ -258,28 +223,17 @@ module _ (defs : List Def) where
     shape : IsFunction x
 
   fun_there : (ds : List Def) (x : List ℕ) (f : Signature) → AllByRecursion (DefFits defs) ds → fun_named ds x ≡ Some f → FunThere (flat_map (funs_of defs) ds) x f
-  fun_there [] x f h e = absurd (no_some f e)
-  fun_there (d.Fun name vs params result body ∷ ds) x f h e = go (bytes_eq name x) refl e (fun_there ds x f h.1)
-    where
-      fun : CFun
-      fun = fun_code defs name params result body
-
-      rest : List CFun
-      rest = flat_map (funs_of defs) ds
-
-      here : FunThere (fun ∷ rest) name (record { vars = vs; params = params; result = result })
-      here = record { body = body; there = contains_first fun rest; typed = h.0.typed; built = fun_built name vs params result body h.0.built; shape = h.0.funs.0 }
-
-      go : (b : Bool) → bytes_eq name x ≡ b → option_or (if b then Some (record { vars = vs; params = params; result = result }) else None) (fun_named ds x) ≡ Some f → (fun_named ds x ≡ Some f → FunThere rest x f)
-          → FunThere (fun ∷ rest) x f
-      go true q k more =
-          subst (λ z. FunThere (fun ∷ rest) x z) (same_some (record { vars = vs; params = params; result = result }) f k)
-          (subst (λ z. FunThere (fun ∷ rest) z (record { vars = vs; params = params; result = result })) ((bytes_eq-Decides name x).0 q) here)
-      go false q k more = let m = more k in record { body = m.body; there = contains_later fun _ rest m.there; typed = m.typed; built = m.built; shape = m.shape }
-  fun_there (d.Struct name vs fs ∷ ds) x f h e = fun_there ds x f h.1 e
-  fun_there (d.Sum name vs cons ∷ ds) x f h e = fun_there ds x f h.1 e
-  fun_there (d.Table name i nums ∷ ds) x f h e = fun_there ds x f h.1 e
-  fun_there (d.Entry name ∷ ds) x f h e = fun_there ds x f h.1 e
+  fun_there ds x f h e =
+      let s = fun_stands ds x f e in
+      let def : Def = d.Fun x f.vars f.params f.result s.0 in
+      let fits = each_get (DefFits defs) ds s.1.0 def h s.1.1 in
+      record {
+        body = s.0;
+        there = contains_flat (funs_of defs) ds s.1.0 def (fun_code defs x f.params f.result s.0) s.1.1 (contains_first _ []);
+        typed = fits.typed;
+        built = fun_built x f.vars f.params f.result s.0 fits.built;
+        shape = fits.funs.0;
+      }
 
   module _ (p : CProgram) (typed : AreWellTyped defs) (each : AllByRecursion (DefFits defs) defs)
       (structs : Among (flat_map structs_of defs) p.structs)

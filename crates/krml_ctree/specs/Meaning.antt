@@ -4,6 +4,7 @@
 -- Undefined from the place where it is met. The clauses cited are of ISO/IEC 9899:2011.
 use Rattle.std.specs.Prelude.{ℕ, suc, ◌+◌, ◌-◌, ◌*◌, ◌/◌, ◌%◌, ◌^◌, ◌==◌, Bool, true, false, not, ◌&&◌, if◌then◌else◌, nat_lt, nat_le, bit_and, bit_or, bit_xor, List, [], ◌∷◌, ◌++◌, map, length, reverse, replicate, Option, Some, None, option_map, option_and_then, slice_get}
 use Rattle.std.specs.Str.{bytes_eq}
+use Rattle.krml_trace.specs.First.{first}
 use Rattle.krml_trace.specs.declared.width.Width.{Width}
 use Rattle.krml_trace.specs.declared.width.Width.TheVariants.{W8, W32, W64}
 use Rattle.krml_trace.specs.declared.argument.Arg.{Arg}
@@ -377,9 +378,11 @@ abbrev pub gives_scalar : Option CType → Bool
 gives_scalar None = true
 gives_scalar (Some a) = is_scalar_in (out-CType a)
 
+abbrev pub scalar_here : List ℕ → CFun → Option CFun
+scalar_here x f = if bytes_eq f.name x && gives_scalar f.result then Some f else None
+
 abbrev pub first_named : List CFun → List ℕ → Option CFun
-first_named [] x = None
-first_named (f ∷ funs) x = if bytes_eq f.name x && gives_scalar f.result then Some f else first_named funs x
+first_named funs x = first (scalar_here x) funs
 
 -- What an argument is: a value, and for a buffer, whose value is the pointer to its first element, a block and an event.
 abbrev pub Passing : Type 0

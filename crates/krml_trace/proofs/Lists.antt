@@ -1,6 +1,8 @@
 -- Lists: the front of one, what it contains, a function of each element, and what holds of each.
-use Rattle.std.proofs.Common.{◌≡◌, ℕ, suc, List, [], ◌∷◌, ◌++◌, map, length, take, slice_get, Some, Contains, refl, ap, ◌∙◌, arith}
+use Rattle.std.proofs.Common.{◌≡◌, ℕ, zero, suc, List, [], ◌∷◌, ◌++◌, map, length, take, slice_get, flat_map, Some, Contains, refl, sym, ap, ◌∙◌, subst, arith}
 use Rattle.std.specs.List.{AllByRecursion}
+use Rattle.std.proofs.lemmas.List.Elements.{Contains-append_left, Contains-append_right}
+use Rattle.std.proofs.lemmas.Option.{same_Some}
 
 pub take_front : {A : Type 0} (before rest : List A) → take (length before) (before ++ rest) ≡ before
 take_front [] rest = refl
@@ -15,6 +17,11 @@ contains_first x xs = (0, omega arith, refl)
 
 pub contains_later : {A : Type 0} (y x : A) (xs : List A) → Contains xs x → Contains (y ∷ xs) x
 contains_later y x xs k = (suc k.0, let l = k.1 in omega (arith, l), k.2)
+
+pub contains_flat : {A B : Type 0} (f : A → List B) (xs : List A) (k : ℕ) (a : A) (b : B) → slice_get xs k ≡ Some a → Contains (f a) b → Contains (flat_map f xs) b
+contains_flat f [] k a b e c = absurd (cc)
+contains_flat f (x ∷ xs) zero a b e c = Contains-append_left (f x) (flat_map f xs) b (subst (λ z. Contains (f z) b) (sym (same_Some x a e)) c)
+contains_flat f (x ∷ xs) (suc k) a b e c = Contains-append_right (f x) (flat_map f xs) b (contains_flat f xs k a b e c)
 
 -- ---- a function of each element
 
