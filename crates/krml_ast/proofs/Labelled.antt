@@ -10,17 +10,17 @@ use Rattle.krml_syntax.specs.declared.tree.Pat.TheVariants as p
 use Rattle.krml_syntax.specs.declared.tree.Field.{Field}
 use Rattle.krml_syntax.specs.declared.tree.Slot.{Slot}
 use Rattle.krml_syntax.specs.declared.tree.Arm.{Arm}
-use Rattle.krml_syntax.specs.declared.tree.Case.{Case}
+use Rattle.krml_syntax.specs.declared.tree.Case.{Case, out-Case}
 use Rattle.krml_syntax.specs.declared.tree.Item.{Item}
 use Rattle.krml_syntax.specs.declared.tree.Item.TheVariants as item
 use Rattle.krml_syntax.specs.declared.tree.Expr.{Expr}
-use Rattle.krml_syntax.specs.declared.tree.Expr.TheFolds.{fold_out-Expr, fold_out-Item, fold-roll-Arm, fold-roll-Case}
+use Rattle.krml_syntax.specs.declared.tree.Expr.TheFolds.{fold_out-Expr, fold_out-Item, fold_out-Case, fold-roll-Arm, fold-roll-Case}
 use Rattle.krml_syntax.specs.declared.tree.Expr.TheVariants as e
 use Rattle.krml_syntax.specs.declared.tree.Def.{Def}
 use Rattle.krml_syntax.specs.Read.{◌>>=◌}
 use Rattle.krml_syntax.specs.Types.{erased, element_of}
 use Rattle.krml_ast.specs.Typing.{Vars, look, Scope, with_vars, in_frame, Matches, MatchAll, HasType, ArmsHaveType, ItemsLead, CasesHaveType}
-use Rattle.krml_ast.specs.Labelled.{hidden, parts_bind, binds, fill_type, first_arm, first_case, items_bind, field_type, part_type, labelled_in, arm_labelled, item_binds, case_labelled, vars_of_fields, labelled_type, erased_vars, field_scope, IsTypedIn, IsLabelled}
+use Rattle.krml_ast.specs.Labelled.{hidden, parts_bind, binds, tab_type, fill_type, first_arm, first_case, items_bind, field_type, part_type, labelled_in, arm_labelled, item_binds, case_labelled, vars_of_fields, labelled_type, erased_vars, field_scope, IsTypedIn, IsLabelled}
 use Rattle.krml_syntax.proofs.Types.{erased_bool, erased_unit, erased_int, erased_buf, erased_named}
 use Rattle.krml_ast.proofs.LabelledTypes.{element_is, field_is, part_is, con_parts_are, make_parts_are}
 
@@ -31,6 +31,17 @@ Labels o r = option_map erased o ≡ Some r
 labels_then : (o : Option Ty) (f : Ty → Option Ty) (r s : Ty) → Labels o r → ((a : Ty) → erased a ≡ r → Labels (f a) s) → Labels (o >>= f) s
 labels_then (Some a) f r s h go = go a (cc)
 labels_then None f r s h go = absurd (cc)
+
+-- ---- forms that are looked up, and forms that have several parts or none
+
+pub tab_labelled : (defs : List Def) (x : List ℕ) (a : Expr) (g : Scope) → labelled_in defs (e.Tab x a) g ≡ tab_type defs x
+tab_labelled defs x a g = rw (fold_out-Expr, e.outs-Tab) refl
+
+pub no_cases_labelled : (defs : List Def) (g : Scope) → labelled_in defs (e.Cases []) g ≡ None
+no_cases_labelled defs g = rw (fold_out-Expr, e.outs-Cases) refl
+
+pub cases_labelled : (defs : List Def) (c : Case) (cases : List Case) (g : Scope) → labelled_in defs (e.Cases (c ∷ cases)) g ≡ labelled_in defs (out-Case c).body g
+cases_labelled defs c cases g = rw (fold_out-Expr, e.outs-Cases, fold_out-Case) refl
 
 labels_some : (a r : Ty) → erased a ≡ r → Labels (Some a) r
 labels_some a r q = ap Some q

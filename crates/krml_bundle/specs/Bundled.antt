@@ -14,10 +14,11 @@ use Rattle.krml_rename.specs.Renaming.{Renaming}
 use Rattle.krml_ast.specs.declared.file.Emitted.{Emitted}
 use Rattle.krml_ast.specs.declared.event.SourceEvent.{SourceEvent}
 use Rattle.krml_ast.specs.declared.event.SourceEvent.TheVariants as event
+use Rattle.krml_ast.specs.declared.run.SourceRun.{SourceRun}
 use Rattle.krml_ast.specs.FileTypes.{emitted_name}
 use Rattle.krml_meaning.specs.Meaning.{has_entry}
 use Rattle.krml_passing.specs.Naming.{Naming, naming, renaming_of, field_under, param_under, con_under, slot_under, expr_under, def_renamed, file_renamed}
-use Rattle.krml_passing.specs.RunsAs.{RunsAs, FitsAs}
+use Rattle.krml_passing.specs.RunsAs.{run_image, RunsAs, FitsAs}
 use Rattle.krml_bundle.specs.Emitted.{emitted_fun, emitted_type, emitted_table, emitted_field}
 
 -- ---- the file
@@ -72,6 +73,9 @@ abbrev pub event_bundled : SourceEvent → SourceEvent
 event_bundled (event.Arg j a n) = event.Arg j (ty_bundled a) n
 event_bundled (event.Push slots) = event.Push (map slot_bundled slots)
 event_bundled ev = ev
+
+abbrev pub run_bundled : SourceRun → SourceRun
+run_bundled = run_image event_bundled
 
 -- Each run of the second file, at the new name of an entry, is that of the first under the new names.
 abbrev pub RunsAsBundled : SourceFile → SourceFile → Type 0
