@@ -1,5 +1,5 @@
 -- The labelled type of an expression is the type that the rules give it, when its labels are erased.
-use Rattle.std.proofs.Common.{◌≡◌, ℕ, Bool, true, false, List, [], ◌∷◌, ◌++◌, map, slice_get, Option, Some, None, option_map, refl, sym, ap, ◌∙◌, subst, append_assoc, append-nil}
+use Rattle.std.proofs.Common.{◌≡◌, ℕ, ◌<◌, ◌≤◌, length, slice_index_or, arith, Bool, true, false, List, [], ◌∷◌, ◌++◌, map, slice_get, Option, Some, None, option_map, refl, sym, ap, ◌∙◌, subst, append_assoc, append-nil}
 use Rattle.std.specs.Str.{bytes_eq}
 use Rattle.std.proofs.lemmas.List.{map-append}
 use Rattle.krml_syntax.specs.declared.tree.Ty.{Ty, out-Ty}
@@ -37,11 +37,15 @@ labels_then None f r s h go = absurd (cc)
 pub tab_labelled : (defs : List Def) (x : List ℕ) (a : Expr) (g : Scope) → labelled_in defs (e.Tab x a) g ≡ tab_type defs x
 tab_labelled defs x a g = rw (fold_out-Expr, e.outs-Tab) refl
 
-pub no_cases_labelled : (defs : List Def) (g : Scope) → labelled_in defs (e.Cases []) g ≡ None
-no_cases_labelled defs g = rw (fold_out-Expr, e.outs-Cases) refl
+pub no_cases_labelled : (defs : List Def) (cases : List Case) (g : Scope) → length cases < 1 → labelled_in defs (e.Cases cases) g ≡ None
+no_cases_labelled defs [] g none = rw (fold_out-Expr, e.outs-Cases) refl
+no_cases_labelled defs (c ∷ cases) g none = absurd (omega (arith, none))
 
-pub cases_labelled : (defs : List Def) (c : Case) (cases : List Case) (g : Scope) → labelled_in defs (e.Cases (c ∷ cases)) g ≡ labelled_in defs (out-Case c).body g
-cases_labelled defs c cases g = rw (fold_out-Expr, e.outs-Cases, fold_out-Case) refl
+-- cases have the type of the first
+pub cases_labelled : (defs : List Def) (cases : List Case) (c : Case) (g : Scope) → 1 ≤ length cases → c ≡ slice_index_or cases 0 c
+    → labelled_in defs (e.Cases cases) g ≡ labelled_in defs (out-Case c).body g
+cases_labelled defs [] c g some is = absurd (omega (arith, some))
+cases_labelled defs (x ∷ cases) c g some is = rw (is) (rw (fold_out-Expr, e.outs-Cases, fold_out-Case) refl)
 
 labels_some : (a r : Ty) → erased a ≡ r → Labels (Some a) r
 labels_some a r q = ap Some q

@@ -237,7 +237,6 @@ impl<'n, 'a> Labels<'n, 'a> {
     }
 
     /// The type of an expression in a scope, with the slots of the innermost frame that stands inside of the whole.
-    #[tactic(auto, using(crate::proofs::Labelled::tab_labelled, crate::proofs::Labelled::no_cases_labelled, crate::proofs::Labelled::cases_labelled))]
     #[cycle(label)]
     fn expr(&self, vars: &mut Vars, frame: Option<&[Slot]>, e: &Expr) -> Labelled
         ensures value { IfOk result (λ r. r ≡ labelled_in self.now.names.now e.now (record { vars = vars.old; frame = option_copied frame.entry })) }

@@ -3,7 +3,7 @@ use Rattle.std.specs.Prelude.{◌≡◌, ℕ, List, Result, Ok, Err}
 use Rattle.krml_syntax.specs.declared.tree.SourceFile.{SourceFile}
 use Rattle.krml_command.specs.declared.request.Command.{Command}
 use Rattle.krml_cli.specs.declared.refusal.FileRefusal.{FileRefusal}
-use Rattle.krml_cli.specs.declared.refusal.FileRefusal.TheVariants.{NotBuilt, NoMemory}
+use Rattle.krml_cli.specs.declared.refusal.FileRefusal.TheVariants.{Read, «Type» as IllTyped, NotBuilt, NoMemory}
 use Rattle.krml_cli.specs.Refusal.{Accepts, Refuses}
 
 -- The file that is accepted, or why each command refuses the input; it may be want of memory.
@@ -16,4 +16,5 @@ IsAnswered input (Err why) = (command : Command) → Refuses input command why
 abbrev pub IsNotBuiltAt : ℕ → FileRefusal → Type 0
 IsNotBuiltAt k (NotBuilt def) = def ≡ k
 IsNotBuiltAt k NoMemory = Unit {0}
-IsNotBuiltAt k _ = ⊥
+IsNotBuiltAt k (Read why) = ⊥
+IsNotBuiltAt k (IllTyped def) = ⊥
