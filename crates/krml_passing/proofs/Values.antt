@@ -83,14 +83,13 @@ module _ (im : Images) where
 
   -- ---- values by shape
 
-  module _ {A A' : Type 0} (Q : Both A A') where
+  module _ {A A' : Type 0} (Q : Both A A') (s : SourceState) where
     -- where a number is asked for, with what the first value is made of
-    pub number_is_alike : (w : Width) (x x' : Value) → x' ≡ im.value x → (s : SourceState) (next : ℕ → SourceRan A) (next' : ℕ
-        → SourceRan A')
+    pub number_is_alike : (w : Width) (x : Value) (next : ℕ → SourceRan A) (next' : ℕ → SourceRan A')
         → ((u : Width) (n : ℕ) → out-Value x ≡ Value-F.Num u n → same_width w u ≡ true → Alike im Q (next n) (next' n))
-        → Alike im Q (as_number w x s next) (as_number w x' (state_image im s) next')
-    number_is_alike w x x' e s next next' k = alike_to im Q (as_number w x s next) (ap (λ o. number_in w o (state_image im s) next')
-        (ap out-Value e ∙ im.out x)) (go (out-Value x) refl)
+        → Alike im Q (as_number w x s next) (as_number w (im.value x) (state_image im s) next')
+    number_is_alike w x next next' k =
+        alike_to im Q (as_number w x s next) (ap (λ o. number_in w o (state_image im s) next') (im.out x)) (go (out-Value x) refl)
       where
         of_width : (u : Width) (n : ℕ) → out-Value x ≡ Value-F.Num u n → (b : Bool) → same_width w u ≡ b
             → Alike im Q (check Undefined b s (next n)) (check Undefined b (state_image im s) (next' n))
@@ -101,47 +100,45 @@ module _ (im : Images) where
         go (Value-F.Num u n) is = of_width u n is (same_width w u) refl
         go _ is = alike_ends im Q Undefined s
 
-    pub number_alike : (w : Width) (x x' : Value) → x' ≡ im.value x → (s : SourceState) (next : ℕ → SourceRan A) (next' : ℕ → SourceRan A')
-        → ((n : ℕ) → Alike im Q (next n) (next' n)) → Alike im Q (as_number w x s next) (as_number w x' (state_image im s) next')
-    number_alike w x x' e s next next' k = number_is_alike w x x' e s next next' (λ u n is same. k n)
+    pub number_alike : (w : Width) (x : Value) (next : ℕ → SourceRan A) (next' : ℕ → SourceRan A')
+        → ((n : ℕ) → Alike im Q (next n) (next' n))
+        → Alike im Q (as_number w x s next) (as_number w (im.value x) (state_image im s) next')
+    number_alike w x next next' k = number_is_alike w x next next' (λ u n is same. k n)
 
-    pub truth_alike : (x x' : Value) → x' ≡ im.value x → (s : SourceState) (next : Bool → SourceRan A) (next' : Bool → SourceRan A')
-        → ((b : Bool) → Alike im Q (next b) (next' b)) → Alike im Q (as_truth x s next) (as_truth x' (state_image im s) next')
-    truth_alike x x' e s next next' k = alike_to im Q (as_truth x s next) (ap (λ o. truth_in o (state_image im s) next') (ap out-Value e
-        ∙ im.out x)) (go (out-Value x))
+    pub truth_alike : (x : Value) (next : Bool → SourceRan A) (next' : Bool → SourceRan A') → ((b : Bool) → Alike im Q (next b) (next' b))
+        → Alike im Q (as_truth x s next) (as_truth (im.value x) (state_image im s) next')
+    truth_alike x next next' k =
+        alike_to im Q (as_truth x s next) (ap (λ o. truth_in o (state_image im s) next') (im.out x)) (go (out-Value x))
       where
         go : (o : Value-F Value) → Alike im Q (truth_in o s next) (truth_in (under o) (state_image im s) next')
         go (Value-F.Bool b) = k b
         go _ = alike_ends im Q Undefined s
 
-    pub buffer_alike : (x x' : Value) → x' ≡ im.value x → (s : SourceState) (next : ℕ → ℕ → ℕ → SourceRan A) (next' : ℕ → ℕ → ℕ
-        → SourceRan A')
+    pub buffer_alike : (x : Value) (next : ℕ → ℕ → ℕ → SourceRan A) (next' : ℕ → ℕ → ℕ → SourceRan A')
         → ((b off len : ℕ) → Alike im Q (next b off len) (next' b off len))
-        → Alike im Q (as_buffer x s next) (as_buffer x' (state_image im s) next')
-    buffer_alike x x' e s next next' k = alike_to im Q (as_buffer x s next) (ap (λ o. buffer_in o (state_image im s) next') (ap out-Value e
-        ∙ im.out x)) (go (out-Value x))
+        → Alike im Q (as_buffer x s next) (as_buffer (im.value x) (state_image im s) next')
+    buffer_alike x next next' k =
+        alike_to im Q (as_buffer x s next) (ap (λ o. buffer_in o (state_image im s) next') (im.out x)) (go (out-Value x))
       where
         go : (o : Value-F Value) → Alike im Q (buffer_in o s next) (buffer_in (under o) (state_image im s) next')
         go (Value-F.Buf b off len) = k b off len
         go _ = alike_ends im Q Undefined s
 
-    pub struct_alike : (x x' : Value) → x' ≡ im.value x → (s : SourceState) (next : List (List ℕ) → List Value
-        → SourceRan A) (next' : List (List ℕ) → List Value → SourceRan A')
+    pub struct_alike : (x : Value) (next : List (List ℕ) → List Value → SourceRan A) (next' : List (List ℕ) → List Value → SourceRan A')
         → ((names : List (List ℕ)) (xs : List Value) → Alike im Q (next names xs) (next' (map im.field names) (map im.value xs)))
-        → Alike im Q (as_struct x s next) (as_struct x' (state_image im s) next')
-    struct_alike x x' e s next next' k = alike_to im Q (as_struct x s next) (ap (λ o. struct_in o (state_image im s) next') (ap out-Value e
-        ∙ im.out x)) (go (out-Value x))
+        → Alike im Q (as_struct x s next) (as_struct (im.value x) (state_image im s) next')
+    struct_alike x next next' k =
+        alike_to im Q (as_struct x s next) (ap (λ o. struct_in o (state_image im s) next') (im.out x)) (go (out-Value x))
       where
         go : (o : Value-F Value) → Alike im Q (struct_in o s next) (struct_in (under o) (state_image im s) next')
         go (Value-F.Struct names xs) = k names xs
         go _ = alike_ends im Q Undefined s
 
-    pub con_alike : (x x' : Value) → x' ≡ im.value x → (s : SourceState) (next : ℕ → List Value → SourceRan A) (next' : ℕ → List Value
-        → SourceRan A')
+    pub con_alike : (x : Value) (next : ℕ → List Value → SourceRan A) (next' : ℕ → List Value → SourceRan A')
         → ((j : ℕ) (xs : List Value) → Alike im Q (next j xs) (next' j (map im.value xs)))
-        → Alike im Q (as_con x s next) (as_con x' (state_image im s) next')
-    con_alike x x' e s next next' k = alike_to im Q (as_con x s next) (ap (λ o. con_in o (state_image im s) next') (ap out-Value e
-        ∙ im.out x)) (go (out-Value x))
+        → Alike im Q (as_con x s next) (as_con (im.value x) (state_image im s) next')
+    con_alike x next next' k =
+        alike_to im Q (as_con x s next) (ap (λ o. con_in o (state_image im s) next') (im.out x)) (go (out-Value x))
       where
         go : (o : Value-F Value) → Alike im Q (con_in o s next) (con_in (under o) (state_image im s) next')
         go (Value-F.Con j xs) = k j xs
