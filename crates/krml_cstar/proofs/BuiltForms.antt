@@ -62,10 +62,10 @@ pub record FormBuilt (o : Expr-F Expr Item Arm Case) : Type 0 where
   pub types : TypesBuilt (written_types o)
   pub parts : PartsBuilt (parts_of o)
 
-abbrev is_arm_built : Arm → Bool
+abbrev pub is_arm_built : Arm → Bool
 is_arm_built = fold-Arm Bool Bool Bool Bool level_built level_item_built level_arm_built level_case_built
 
-abbrev is_case_built : Case → Bool
+abbrev pub is_case_built : Case → Bool
 is_case_built = fold-Case Bool Bool Bool Bool level_built level_item_built level_arm_built level_case_built
 
 abbrev pub is_layer_built : Expr-F Expr Item Arm Case → Bool

@@ -1,5 +1,5 @@
 -- Layers whose parts carry what holds of them, as the kit's induction over expressions has them, and the induction over parts.
-use Rattle.std.proofs.Common.{◌≡◌, List, [], ◌∷◌, ◌++◌, map, refl, sym, ap, subst}
+use Rattle.std.proofs.Common.{◌≡◌, List, [], ◌∷◌, ◌++◌, map, refl, sym, ap, ◌∙◌, subst}
 use Rattle.krml_syntax.specs.declared.tree.Item.{Item, roll-Item}
 use Rattle.krml_syntax.specs.declared.tree.Arm.{Arm, roll-Arm}
 use Rattle.krml_syntax.specs.declared.tree.Case.{Case, roll-Case}
@@ -7,7 +7,7 @@ use Rattle.krml_syntax.specs.declared.tree.Expr.{Expr, roll-Expr}
 use Rattle.krml_syntax.specs.declared.tree.Expr.TheFolds.{ind-Expr}
 use Rattle.krml_syntax.specs.declared.tree.Expr.TheOpen.{Expr-F, Item-F, Arm-F, Case-F}
 use Rattle.krml_syntax.specs.Shape.{map_layer, map_item, map_arm, map_case, Part, map_part, parts_of, parts_of_item, parts_of_arm, parts_of_case, OfPart, OfParts}
-use Rattle.krml_syntax.proofs.Shape.{parts_mapped, item_parts_mapped, case_parts_mapped}
+use Rattle.krml_syntax.proofs.Shape.{layer_twice, of_parts, parts_mapped, item_parts_mapped, case_parts_mapped}
 use Rattle.krml_trace.proofs.Lists.{each_left, each_right}
 
 -- something, and what holds of it
@@ -140,6 +140,19 @@ module _ {E I A C : Type 0} (R S T : E → Type 0) (R' S' T' : I → Type 0) (R'
   pub both_case : (o : Case-F E I A C) → CaseWith R R' R'' R''' o → CaseWith S S' S'' S''' o → CaseWith T T' T'' T''' o
   both_case o w w' = case_attached T T' T'' T''' o
       (both_parts (parts_of_case o) (of_case_attached R R' R'' R''' o w) (of_case_attached S S' S'' S''' o w'))
+
+-- functions that agree on the parts of a layer make the same layer of it
+module _ {E I A C E' I' A' C' : Type 0} (f g : E → E') (f' g' : I → I') (f'' g'' : A → A') (f''' g''' : C → C') where
+  pub same_layer : (o : Expr-F E I A C)
+      → OfParts (λ x. f x ≡ g x) (λ x. f' x ≡ g' x) (λ x. f'' x ≡ g'' x) (λ x. f''' x ≡ g''' x) (parts_of o)
+      → map_layer f f' f'' f''' o ≡ map_layer g g' g'' g''' o
+  same_layer o h =
+      let w = attached (λ x. f x ≡ g x) (λ x. f' x ≡ g' x) (λ x. f'' x ≡ g'' x) (λ x. f''' x ≡ g''' x) o h in
+      ap (map_layer f f' f'' f''') (sym w.1)
+      ∙ layer_twice (λ q. q.0) (λ q. q.0) (λ q. q.0) (λ q. q.0) f f' f'' f''' w.0
+      ∙ of_parts (λ k k' k'' k'''. map_layer k k' k'' k''' w.0) (λ q. q.1) (λ q. q.1) (λ q. q.1) (λ q. q.1)
+      ∙ sym (layer_twice (λ q. q.0) (λ q. q.0) (λ q. q.0) (λ q. q.0) g g' g'' g''' w.0)
+      ∙ ap (map_layer g g' g'' g''') w.1
 
 -- ---- induction
 
