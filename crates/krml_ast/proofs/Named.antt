@@ -41,9 +41,11 @@ is_table x i (d.Entry name) e = absurd (cc)
 
 pub is_fun : (x : List ℕ) (f : Signature) (def : Def) → fun_here x def ≡ Some f → (body : Expr) × (def ≡ d.Fun x f.vars f.params f.result body)
 is_fun x f (d.Fun name vs params result body) e =
-    let k = answer_of name x (record { vars = vs; params = params; result = result }) f e in
-    (body, let q = k.0 in let r : record { vars = vs; params = params; result = result } ≡ f = k.1 in
-    ap (λ z. d.Fun z vs params result body) q ∙ ap (λ (z : Signature). d.Fun x z.vars z.params z.result body) r)
+    let k = answer_of name x (record { vars = vs; params = params; result = result }) f e in (
+      body,
+      let q = k.0 in let r : record { vars = vs; params = params; result = result } ≡ f = k.1 in
+          ap (λ z. d.Fun z vs params result body) q ∙ ap (λ (z : Signature). d.Fun x z.vars z.params z.result body) r,
+    )
 is_fun x f (d.Struct name vs fs) e = absurd (cc)
 is_fun x f (d.Sum name vs cons) e = absurd (cc)
 is_fun x f (d.Table name ty nums) e = absurd (cc)

@@ -10,10 +10,9 @@ ghost use Rattle.krml_ast.specs.Labelled.{hidden, con_parts, make_parts, parts_b
 
 use crate::fields::field_named;
 use crate::names::Names;
-use crate::types::{
-    arguments_of, buffer, clone_each, clone_ty, each_at, element_of, name_of, named, type_at,
-};
+use crate::types::{arguments_of, buffer, each_at, element_of, name_of, named, type_at};
 use crate::vars::Vars;
+use krml_rename::{clone_each, clone_ty};
 use krml_syntax::{Arm, Case, Expr, Field, IntTy, Item, Pat, Slot, SourceFile, Ty};
 use krml_trace::{Name, NoMemory, Seq};
 use std::alloc::Global;

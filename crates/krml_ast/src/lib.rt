@@ -23,6 +23,7 @@ pub use fields::field_named;
 pub use file::{BundledFile, CheckedFile, Emitted, HoistedFile, MonoFile, PlainFile};
 pub use found::{ConDef, FunDef, StructDef, SumDef};
 pub use kind::NameKind;
+pub use krml_rename::{ast_clone, clone_ty};
 pub use krml_syntax::{
     Arm, BinOp, Case, CmpOp, Con, Def, Expr, Field, IntTy, Item, LimitKind, Pat, Slot, SourceFile,
     Ty,
@@ -30,5 +31,5 @@ pub use krml_syntax::{
 pub use labels::type_of;
 pub use names::Names;
 pub use run::SourceRun;
-pub use types::{clone_ty, name_of, type_at};
+pub use types::{name_of, type_at};
 pub use vars::Vars;

@@ -1,10 +1,11 @@
-//! Copies of types, what they have, and types at type arguments.
+//! What types have, and types at type arguments.
 
 ghost use Rattle.std.specs.Prelude.{◌≡◌, IfOk, IsOkAnd, map, option_map};
 ghost use Rattle.krml_syntax.specs.declared.tree.Ty.TheVariants.{Buf, Named, Var};
 ghost use Rattle.krml_syntax.specs.declared.tree.Ty.{out-Ty};
 ghost use Rattle.krml_syntax.specs.Types.{argument_of, type_at, element_of, name_of, arguments_of};
 
+use krml_rename::clone_ty;
 use krml_syntax::Ty;
 use krml_trace::{Box, Name, NoMemory, Seq};
 use std::alloc::Global;
@@ -33,33 +34,6 @@ pub(crate) fn named(
 {
     let args = args?;
     Ok(Ty::Named(x.copy(alloc)?, args))
-}
-
-/// A copy of a type.
-#[cycle(clone)]
-pub fn clone_ty(alloc: Global, a: &Ty) -> Result<Ty, NoMemory>
-    ensures { IfOk result (λ r. r ≡ a.now) }
-{
-    match a {
-        Ty::Bool => Ok(Ty::Bool),
-        Ty::Unit => Ok(Ty::Unit),
-        Ty::Int(i) => Ok(Ty::Int(*i)),
-        Ty::Buf(b) => buffer(alloc, clone_ty(alloc, b.get())),
-        Ty::Var(x) => variable(alloc, x),
-        Ty::Named(x, args) => named(alloc, x, clone_each(alloc, args.as_slice())),
-    }
-}
-
-/// Copies of types.
-#[cycle(clone)]
-pub(crate) fn clone_each(alloc: Global, types: &[Ty]) -> Result<Seq<Ty>, NoMemory>
-    ensures { IfOk result (λ r. r ≡ types.now) }
-{
-    let mut all = Seq::new(alloc);
-    for ty in types {
-        all.push(clone_ty(alloc, ty)?)?;
-    }
-    Ok(all)
 }
 
 /// The argument of a type variable. A variable that has none stays.

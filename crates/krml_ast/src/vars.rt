@@ -2,7 +2,7 @@ ghost use Rattle.std.specs.Prelude.{◌≡◌, ◌∷◌, [], ◌++◌, ◌-◌,
 ghost use Rattle.krml_ast.specs.Typing.{look};
 ghost use Rattle.krml_intern.specs.Scope.{cut, is_new, are_distinct};
 
-use crate::types::clone_ty;
+use krml_rename::clone_ty;
 use krml_syntax::Ty;
 use krml_trace::{Name, NoMemory};
 use std::alloc::Global;

@@ -93,9 +93,9 @@ expr_step o h k =
     let f = form_built (roll-Expr o) o (out-roll-Expr o) k in
     let own = both (flat_map pieces_of_ty (written_types o)) (map Bound (bound_variables o)) (types_in (written_types o) f.types) (vars_in (bound_variables o)) in
     let parts : HoldsIn InPart (parts_of o) =
-        both_parts P (λ x. is_expr_built x ≡ true) (λ x. AllIn (pieces_of x)) P' (λ x. is_item_built x ≡ true) (λ x. AllIn (inside_item x))
-        (λ x. Unit {0}) (λ x. ⊥) (λ x. AllIn (inside_arm x)) (λ x. Unit {0}) (λ x. ⊥) (λ x. AllIn (inside_case x))
-        (λ x p. p) (λ x p. p) (λ x u. absurd) (λ x u. absurd) (parts_of o) h f.parts in (
+    both_parts P (λ x. is_expr_built x ≡ true) (λ x. AllIn (pieces_of x)) P' (λ x. is_item_built x ≡ true) (λ x. AllIn (inside_item x))
+    (λ x. Unit {0}) (λ x. ⊥) (λ x. AllIn (inside_arm x)) (λ x. Unit {0}) (λ x. ⊥) (λ x. AllIn (inside_case x))
+    (λ x p. p) (λ x p. p) (λ x u. absurd) (λ x u. absurd) (parts_of o) h f.parts in (
       record { ordinary = ap role (out-roll-Expr o) ∙ f.ordinary; arguments = ap type_arguments (out-roll-Expr o) ∙ f.arguments },
       inside_hold InPart (roll-Expr o) o (out-roll-Expr o) own parts,
     )

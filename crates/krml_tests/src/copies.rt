@@ -8,7 +8,8 @@ use std::alloc::Global;
 use std::test::Fail;
 
 /// Functions without parameters whose bodies have each form that a text spells.
-const FUNCTIONS: &[u8] = b"(fun f () () unit (if (lt u32 x (u32 10)) (do (let x su8 (add su8 x (su8 1))) (call g (u8 (buf bool)) x) unit) (get y x)))
+const FUNCTIONS: &[u8] =
+    b"(fun f () () unit (if (lt u32 x (u32 10)) (do (let x su8 (add su8 x (su8 1))) (call g (u8 (buf bool)) x) unit) (get y x)))
 (fun f () () (p u8) (frame (do (write x y (not z)) (while true unit) (for i a b (slice x i j)) (alloc (p 'a) 16 (u8 1)))))
 (fun f () () bool (match (con some ('a) (tab t x)) (_ x) ((con some y (make p true (u8 7))) false)))
 (fun f () () u64 (make p (u8) (shr u8 x (cast u64 u32 y)) (shl u8 a (hide u8 b)) (read b i) (gtemask su8 x y)))
@@ -19,7 +20,10 @@ fn copied(alloc: Global, file: &SourceFile) -> Result<SourceFile, NoMemory> {
     let mut defs = Seq::new(alloc);
     for def in file.defs.as_slice() {
         if let Def::Fun {
-            name, result, body, ..
+            name,
+            result,
+            body,
+            ..
         } = def
         {
             let body = ast_clone(alloc, body)?;
