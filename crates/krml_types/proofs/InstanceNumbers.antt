@@ -277,6 +277,10 @@ field_of defs x y args s q = rw (ty.outs-Named x args, q, field_placed s.1 y) (g
     go None = refl
     go (Some j) = inner (slice_get s.1 j)
 
+-- a name that is no struct's has no fields
+pub no_struct : (defs : List Def) (x y : List ℕ) (a : Ty) → struct_named defs x ≡ None → Some x ≡ head_of (out-Ty a) → field_type defs y a ≡ None
+no_struct defs x y a none head = let h = headed a x head in ap (field_type defs y) h.1 ∙ rw (ty.outs-Named x h.0, none) refl
+
 -- no field has the name
 pub no_field : (defs : List Def) (x y : List ℕ) (s : List (List ℕ) × List Field) (a : Ty) → struct_named defs x ≡ Some s → Some x ≡ head_of (out-Ty a) → None ≡ place_in s.1 y
     → field_type defs y a ≡ None

@@ -1,8 +1,13 @@
 -- The type of a field.
 use Rattle.std.proofs.Common.{sym, ap, ◌∙◌, refl}
 use Rattle.krml_ast.specs.Names.{struct_named}
-use Rattle.krml_types.proofs.InstanceNumbers.{is_at, no_field, field_gives}
+use Rattle.krml_types.proofs.InstanceNumbers.{is_at, no_struct, no_field, field_gives}
 use Rattle.krml_types.proofs.judge.Judge.field_type.Goals as goal
+
+pub returns-in_default-struct_named-clause-value : goal.returns-in_default-struct_named-clause-value
+returns-in_default-struct_named-clause-value c = λ a e.
+    no_struct c.args.self.now.place.defs c.in-Some.x.now c.args.y.now a
+    (ap (λ ds. struct_named ds c.in-Some.x.now) (sym (c.names.ensures ∙ c.index.ensures)) ∙ sym c.in_default-struct_named.ensures) (c.in-Some.ensures a e)
 
 pub returns-in_default-place_in-clause-value : goal.returns-in_default-place_in-clause-value
 returns-in_default-place_in-clause-value c = λ a e.
