@@ -1,19 +1,10 @@
 -- Passes that change some forms of expressions, and no name: every other form is one row, and the file runs as before.
-use Rattle.std.proofs.Common.{◌≡◌, List, [], ◌∷◌, map, true, refl, sym, ap, ◌∙◌, subst}
+use Rattle.std.proofs.Common.{◌≡◌, List, refl, sym, ap, ◌∙◌, subst}
 use Rattle.std.proofs.lemmas.List.{map-id}
-use Rattle.krml_trace.specs.declared.arguments.Arguments.{Arguments}
-use Rattle.krml_trace.specs.declared.bound.Bound.{Bound}
 use Rattle.krml_trace.proofs.Lists.{map_same}
-use Rattle.krml_syntax.specs.declared.tree.Ty.{out-Ty}
-use Rattle.krml_syntax.specs.declared.tree.Ty.TheOpen.{Ty-F}
-use Rattle.krml_syntax.specs.declared.tree.Ty.{Ty}
-use Rattle.krml_syntax.specs.declared.tree.Pat.{Pat, out-Pat}
-use Rattle.krml_syntax.specs.declared.tree.Pat.TheOpen.{Pat-F}
-use Rattle.krml_syntax.specs.declared.tree.Item.{Item, roll-Item}
-use Rattle.krml_syntax.specs.declared.tree.Arm.{Arm}
-use Rattle.krml_syntax.specs.declared.tree.Case.{Case}
+use Rattle.krml_syntax.specs.declared.tree.Item.{roll-Item}
 use Rattle.krml_syntax.specs.declared.tree.Expr.{Expr, roll-Expr}
-use Rattle.krml_syntax.specs.declared.tree.Expr.TheOpen.{Expr-F, Item-F, Arm-F}
+use Rattle.krml_syntax.specs.declared.tree.Expr.TheOpen.{Expr-F, Item-F}
 use Rattle.krml_syntax.specs.declared.tree.Def.{Def}
 use Rattle.krml_syntax.specs.declared.tree.Def.TheVariants as d
 use Rattle.krml_syntax.specs.declared.tree.SourceFile.{SourceFile}
@@ -21,16 +12,15 @@ use Rattle.krml_syntax.specs.Shape.{parts_of}
 use Rattle.krml_ast.specs.declared.event.SourceEvent.{SourceEvent}
 use Rattle.krml_ast.specs.declared.event.SourceEvent.TheVariants as event
 use Rattle.krml_ast.specs.declared.run.SourceRun.{SourceRun}
-use Rattle.krml_meaning.specs.declared.value.Value.{Value, out-Value}
-use Rattle.krml_meaning.specs.declared.value.Value.TheOpen.{Value-F}
 use Rattle.krml_meaning.specs.Meaning as src
 use Rattle.krml_meaning.proofs.Evals as old
-use Rattle.krml_passing.specs.Images.{Images, value_under, event_image}
+use Rattle.krml_passing.specs.Images.{Images, event_image}
 use Rattle.krml_passing.specs.Alike.{Scopes, Same, Leads, SameOf}
 use Rattle.krml_passing.specs.RunsAs.{run_image, RunsAs}
 use Rattle.krml_rename.specs.Pass.{Layer, Pass, passed, parts_passed, changing, def_with, file_with}
 use Rattle.krml_rename.specs.Renaming.{Renaming, slot_renamed, renamed, item_renamed}
 use Rattle.krml_passing.specs.Naming.{unchanged, ty_under, pat_under, images_of, renaming_of, under_names, def_under, file_under}
+use Rattle.krml_passing.specs.Laws.{MeansTheSame}
 use Rattle.krml_passing.proofs.Forms.{SameTested}
 use Rattle.krml_passing.proofs.Passes.{layer_means, PartsPass, LayerPasses, all_pass}
 use Rattle.krml_passing.proofs.Renamed.{SameArm, layer_same, item_layer_passes, arm_layer_passes, case_layer_passes}
@@ -140,8 +130,6 @@ module _ (change : Layer → Expr) where
       ∙ run_itself (src.source_run file entry args bound)
 
   -- A pass that puts in the place of a layer what means the same keeps every run.
-  pub runs_rewritten : ((defs : List Def) (calls : src.Calls) (y : Layer) → src.meaning defs calls (change y)
-      ≡ src.meaning defs calls (roll-Expr y))
-      → (file : SourceFile) → RunsAs (λ x. x) (λ e. e) file (file_with changed file)
+  pub runs_rewritten : MeansTheSame change → (file : SourceFile) → RunsAs (λ x. x) (λ e. e) file (file_with changed file)
   runs_rewritten same file = runs_changed file (λ calls calls' k y parts. rw (same (to unchanged unchanged_apart changed file.defs) calls'
       (parts_passed p y)) (left_same file.defs calls calls' k y parts))

@@ -11,13 +11,14 @@ use Rattle.krml_syntax.specs.declared.tree.Expr.{Expr, out-Expr, roll-Expr}
 use Rattle.krml_syntax.specs.declared.tree.Expr.TheVariants as e
 use Rattle.krml_syntax.specs.declared.tree.Expr.TheViews.{roll-out-Expr}
 use Rattle.krml_syntax.specs.declared.tree.Expr.TheOpen.{Expr-F}
+use Rattle.krml_syntax.specs.declared.tree.Expr.TheFolds.{fold_out-Expr}
 use Rattle.krml_syntax.specs.declared.tree.Def.{Def}
 use Rattle.krml_syntax.specs.declared.tree.SourceFile.{SourceFile}
 use Rattle.krml_meaning.specs.declared.value.Value.{Value, out-Value}
 use Rattle.krml_meaning.specs.declared.value.Value.TheVariants as v
 use Rattle.krml_meaning.specs.declared.value.Value.TheOpen.{Value-F}
-use Rattle.krml_meaning.specs.State.{SourceState, SourceRan, Env, value_of, number_in, as_number}
-use Rattle.krml_meaning.specs.Numbered.{none, two}
+use Rattle.krml_meaning.specs.State.{SourceState, SourceRan, value_of, number_in, as_number}
+use Rattle.krml_meaning.specs.Numbered.{none}
 use Rattle.krml_meaning.specs.Meaning as src
 use Rattle.krml_meaning.proofs.Evals as old
 use Rattle.krml_passing.specs.RunsAs.{RunsAs}
@@ -39,6 +40,12 @@ addition i a b _ _ = e.Bin op.Add i a b
 abbrev swap : Layer → Expr
 swap (Expr-F.Bin op.Add i a b) = addition i a b (variable (out-Expr a)) (variable (out-Expr b))
 swap y = roll-Expr y
+
+-- it swaps
+swaps : (i : IntTy) (x y : List ℕ) → changed swap (e.Bin op.Add i (e.Var x) (e.Var y)) ≡ e.Bin op.Add i (e.Var y) (e.Var x)
+swaps i x y =
+    let var : (z : List ℕ) → changed swap (e.Var z) ≡ e.Var z = λ z. rw (fold_out-Expr, e.outs-Var z) (e.rolls-Var z) in
+    rw (fold_out-Expr, e.outs-Bin op.Add i (e.Var x) (e.Var y), var x, var y, e.outs-Var x, e.outs-Var y) refl
 
 -- ---- an addition of variables means the same when it is swapped
 

@@ -22,7 +22,7 @@ use Rattle.krml_meaning.specs.declared.value.Value.{Value}
 use Rattle.krml_meaning.specs.declared.value.Value.TheVariants as v
 use Rattle.krml_meaning.specs.Meaning as src
 use Rattle.krml_passing.specs.Images.{Images}
-use Rattle.krml_passing.specs.Naming.{Naming, TellsNamesApart, ty_under, images_of, field_under, param_under, con_under, def_under, function_under}
+use Rattle.krml_passing.specs.Naming.{Naming, TellsNamesApart, ty_under, images_of, field_under, con_under, def_under, function_under}
 use Rattle.krml_passing.proofs.Values as is
 
 pub image_if : {X Y : Type 0} (g : X → Y) {b c : Bool} → c ≡ b → (v : X) → (if c then Some (g v) else None) ≡ option_map g (if b then Some v else None)

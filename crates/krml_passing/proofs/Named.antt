@@ -1,6 +1,6 @@
 -- Files under new names that tell names apart: they run as the file does, whatever a pass makes of bodies besides, as long as
 -- bodies do the same.
-use Rattle.std.proofs.Common.{◌≡◌, ℕ, true, List, [], ◌∷◌, ◌++◌, map, Option, Some, None, option_map, option_and_then, slice_get, bytes_eq, refl, sym, ap, ◌∙◌, subst}
+use Rattle.std.proofs.Common.{◌≡◌, ℕ, List, [], ◌∷◌, map, Option, Some, None, option_map, option_and_then, slice_get, bytes_eq, refl, sym, ap, ◌∙◌}
 use Rattle.std.proofs.lemmas.List.{map-append}
 use Rattle.std.proofs.lemmas.Option.{slice_get-map}
 use Rattle.krml_trace.specs.declared.width.Width.{Width}
@@ -10,24 +10,23 @@ use Rattle.krml_trace.specs.declared.why.Why.TheVariants.{Undefined}
 use Rattle.krml_syntax.specs.declared.tree.Ty.{Ty, out-Ty}
 use Rattle.krml_syntax.specs.declared.tree.Ty.TheOpen.{Ty-F}
 use Rattle.krml_syntax.specs.declared.tree.Field.{Field}
-use Rattle.krml_syntax.specs.declared.tree.Slot.{Slot}
 use Rattle.krml_syntax.specs.declared.tree.Pat.{Pat}
 use Rattle.krml_syntax.specs.declared.tree.Expr.{Expr}
 use Rattle.krml_syntax.specs.declared.tree.Expr.TheOpen.{Expr-F}
 use Rattle.krml_syntax.specs.declared.tree.Def.{Def}
 use Rattle.krml_syntax.specs.declared.tree.SourceFile.{SourceFile}
 use Rattle.krml_meaning.specs.declared.value.Value.{Value}
-use Rattle.krml_meaning.specs.State.{Block, SourceState, Variables, Env, value_of, with_vars, closed, closed_slot}
+use Rattle.krml_meaning.specs.State.{Variables, Env, value_of, with_vars, closed, closed_slot}
 use Rattle.krml_meaning.specs.Meaning as src
-use Rattle.krml_passing.specs.Images.{Images, vars_image, slot_image, event_image, state_image}
-use Rattle.krml_passing.specs.Alike.{Alike, IsImage, Same, SameOf}
+use Rattle.krml_passing.specs.Images.{Images, vars_image, event_image, state_image}
+use Rattle.krml_passing.specs.Alike.{IsImage, Same}
 use Rattle.krml_passing.specs.RunsAs.{RunsAs, FitsAs}
 use Rattle.krml_rename.specs.Pass.{Layer}
 use Rattle.krml_rename.specs.Renaming.{slot_renamed, expr_renamed}
 use Rattle.krml_passing.specs.Naming.{Naming, TellsNamesApart, ty_under, images_of, renaming_of, env_image, under_names, param_under, file_under, function_under, file_renamed}
 use Rattle.krml_passing.proofs.Alike.{alike_some, alike_to}
 use Rattle.krml_passing.proofs.Values.{first_image}
-use Rattle.krml_passing.proofs.Forms.{SameCon, SameZero, table_image}
+use Rattle.krml_passing.proofs.Forms.{SameCon, SameZero}
 use Rattle.krml_passing.proofs.Renamed.{ScopesKept, Kept, PatKept, renamed_same}
 use Rattle.krml_passing.proofs.RunsAs.{CallsAlike, enter_alike, runs_as, fits_as, start_image}
 use Rattle.krml_passing.proofs.Starts.{FitsAlike, starts_alike}

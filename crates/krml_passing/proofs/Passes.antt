@@ -1,11 +1,11 @@
 -- Passes that go layer by layer: an expression does the same after the pass, where each layer does whose parts do.
-use Rattle.std.proofs.Common.{List, map, sym, ap, ◌∙◌, subst}
+use Rattle.std.proofs.Common.{List, ap, ◌∙◌, subst}
 use Rattle.krml_syntax.specs.declared.tree.Slot.{Slot}
 use Rattle.krml_syntax.specs.declared.tree.Arm.{Arm, roll-Arm}
 use Rattle.krml_syntax.specs.declared.tree.Case.{Case, roll-Case}
 use Rattle.krml_syntax.specs.declared.tree.Item.{Item, roll-Item}
 use Rattle.krml_syntax.specs.declared.tree.Expr.{Expr, roll-Expr}
-use Rattle.krml_syntax.specs.declared.tree.Expr.TheOpen.{Expr-F, Item-F, Arm-F, Case-F}
+use Rattle.krml_syntax.specs.declared.tree.Expr.TheOpen.{Item-F, Arm-F, Case-F}
 use Rattle.krml_syntax.specs.declared.tree.Expr.TheFolds.{fold-roll-Expr, fold-roll-Item, fold-roll-Arm, fold-roll-Case, ind-Expr, every-Expr, every-Item, every-Arm, every-Case, every_here-Expr, every_here-Item, every_here-Arm, every_here-Case, every_held-Expr, every_held-Item, every_held-Arm, every_held-Case}
 use Rattle.krml_syntax.specs.declared.tree.Expr.TheViews.{out-roll-Expr, out-roll-Item, out-roll-Arm, out-roll-Case}
 use Rattle.krml_syntax.specs.declared.tree.Def.{Def}

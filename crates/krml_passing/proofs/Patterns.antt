@@ -4,7 +4,7 @@ use Rattle.std.proofs.lemmas.List.{map-append}
 use Rattle.krml_trace.specs.Width.{same_width}
 use Rattle.krml_syntax.specs.declared.tree.IntTy.{IntTy}
 use Rattle.krml_syntax.specs.declared.tree.Ty.{Ty}
-use Rattle.krml_syntax.specs.declared.tree.Pat.{Pat, out-Pat, roll-Pat, map-Pat}
+use Rattle.krml_syntax.specs.declared.tree.Pat.{Pat, roll-Pat, map-Pat}
 use Rattle.krml_syntax.specs.declared.tree.Pat.TheOpen.{Pat-F}
 use Rattle.krml_syntax.specs.declared.tree.Pat.TheViews.{out-roll-Pat}
 use Rattle.krml_syntax.specs.declared.tree.Pat.TheFolds.{fold_out-Pat, fold-roll-Pat, ind-Pat}
@@ -16,7 +16,7 @@ use Rattle.krml_meaning.specs.declared.value.Value.TheOpen.{Value-F}
 use Rattle.krml_meaning.specs.State.{Variables}
 use Rattle.krml_meaning.specs.Meaning as src
 use Rattle.krml_passing.specs.Images.{value_under, vars_image}
-use Rattle.krml_passing.specs.Naming.{Naming, TellsNamesApart, pat_under, images_of, def_under}
+use Rattle.krml_passing.specs.Naming.{Naming, TellsNamesApart, pat_under, images_of}
 use Rattle.krml_passing.proofs.Lookups.{place_under, to, con_place_under}
 
 module _ (n : Naming) (ok : TellsNamesApart n) where

@@ -23,7 +23,8 @@ pub same_under : (im : Images) (I J : Scopes) {a a' : Sem} → ((env env' : Env)
 same_under im I J f h = record { run = λ env env' s j. h.run env env' s (f env env' s.memory j) }
 
 module _ (im : Images) (defs : List Def) (at_args : Instance defs) (R : Env → Env → Type 0) where
-  -- The first scope is ready for what stands in g with these slots from number k on, in a typed memory, and the second stands to it as R says.
+  -- The first scope is ready for what stands in g with these slots from number k on, in a typed memory, and the second stands to it
+  -- as R says.
   abbrev pub Ready : Scope → ℕ → List Slot → Scopes
   Ready g k slots env env' m = At defs at_args g k slots m env × MemoryTyped defs m × R env env'
 

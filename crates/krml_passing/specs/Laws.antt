@@ -1,5 +1,5 @@
 -- What passes keep of files.
-use Rattle.std.specs.Prelude.{◌≡◌, ℕ, List}
+use Rattle.std.specs.Prelude.{◌≡◌, List}
 use Rattle.krml_syntax.specs.declared.tree.Expr.{Expr, roll-Expr}
 use Rattle.krml_syntax.specs.declared.tree.Def.{Def}
 use Rattle.krml_syntax.specs.declared.tree.SourceFile.{SourceFile}

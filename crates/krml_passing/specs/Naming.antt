@@ -1,5 +1,5 @@
 -- Other names for the definitions of a file, and a file under them.
-use Rattle.std.specs.Prelude.{◌≡◌, ℕ, Bool, true, List, map}
+use Rattle.std.specs.Prelude.{◌≡◌, ℕ, true, List, map}
 use Rattle.std.specs.Str.{bytes_eq}
 use Rattle.krml_syntax.specs.declared.tree.Ty.{Ty, out-Ty, roll-Ty, map-Ty}
 use Rattle.krml_syntax.specs.declared.tree.Ty.TheOpen.{Ty-F}

@@ -3,9 +3,9 @@ use Rattle.std.specs.Prelude.{ℕ, List, map}
 use Rattle.krml_syntax.specs.declared.tree.Ty.{Ty}
 use Rattle.krml_syntax.specs.declared.tree.Slot.{Slot}
 use Rattle.krml_syntax.specs.declared.tree.Pat.{Pat}
-use Rattle.krml_syntax.specs.declared.tree.Arm.{Arm, roll-Arm}
-use Rattle.krml_syntax.specs.declared.tree.Case.{Case, roll-Case}
-use Rattle.krml_syntax.specs.declared.tree.Item.{Item, roll-Item}
+use Rattle.krml_syntax.specs.declared.tree.Arm.{roll-Arm}
+use Rattle.krml_syntax.specs.declared.tree.Case.{roll-Case}
+use Rattle.krml_syntax.specs.declared.tree.Item.{roll-Item}
 use Rattle.krml_syntax.specs.declared.tree.Expr.{Expr, roll-Expr}
 use Rattle.krml_syntax.specs.declared.tree.Expr.TheOpen.{Expr-F, Item-F, Arm-F}
 use Rattle.krml_rename.specs.Pass.{Pass, passed}
