@@ -10,7 +10,7 @@ use Rattle.krml_syntax.specs.declared.tree.Expr.TheFolds.{fold-roll-Expr, fold-r
 use Rattle.krml_syntax.specs.declared.tree.Expr.TheViews.{out-roll-Expr, out-roll-Item, out-roll-Arm, out-roll-Case}
 use Rattle.krml_syntax.specs.declared.tree.Def.{Def}
 use Rattle.krml_syntax.specs.Shape.{map_layer, map_item, map_arm, map_case, Part, parts_of, parts_of_item, parts_of_arm, parts_of_case, OfParts}
-use Rattle.krml_syntax.proofs.Attached.{With, ItemWith, ArmWith, CaseWith, of_attached, of_item_attached, of_arm_attached, of_case_attached, both, both_item, both_arm, both_case}
+use Rattle.krml_syntax.proofs.Attached.{With, ItemWith, ArmWith, CaseWith, of_attached, of_item_attached, of_arm_attached, of_case_attached, both, both_item, both_arm, both_case, by_parts}
 use Rattle.krml_meaning.specs.State.{Sem}
 use Rattle.krml_meaning.specs.Numbered.{Numbered}
 use Rattle.krml_meaning.specs.Meaning as src
@@ -97,11 +97,9 @@ module _ (slot : Slot → Slot) (W : Sem → Sem → Type 0) (W' : src.Step → 
   module _ (exprs : (y : Layer) → LayerPasses y) (items : (y : Item-F Expr Item Arm Case) → ItemLayerPasses y)
       (arms : (y : Arm-F Expr Item Arm Case) → ArmLayerPasses y) (cases : (y : Case-F Expr Item Arm Case) → CaseLayerPasses y) where
     pub all_pass : (x : Expr) → Passes x
-    all_pass = ind-Expr Passes ItemPasses ArmPasses CasePasses
-        (λ y w eq. expr_passes y (exprs y) (of_attached Passes ItemPasses ArmPasses CasePasses y (w, eq)))
-        (λ y w eq. item_passes y (items y) (of_item_attached Passes ItemPasses ArmPasses CasePasses y (w, eq)))
-        (λ y w eq. arm_passes y (arms y) (of_arm_attached Passes ItemPasses ArmPasses CasePasses y (w, eq)))
-        (λ y w eq. case_passes y (cases y) (of_case_attached Passes ItemPasses ArmPasses CasePasses y (w, eq)))
+    all_pass = by_parts Passes ItemPasses ArmPasses CasePasses (λ y parts. expr_passes y (exprs y) parts)
+        (λ y parts. item_passes y (items y) parts)
+        (λ y parts. arm_passes y (arms y) parts) (λ y parts. case_passes y (cases y) parts)
 
   -- ---- whole expressions, where those layers do the same of which something holds
 
