@@ -1,7 +1,7 @@
 -- What each form of the source becomes, and what it takes to be built: the equations of the translation.
-use Rattle.std.proofs.Common.{◌≡◌, ℕ, Bool, List, map}
+use Rattle.std.proofs.Common.{◌≡◌, ℕ, Bool, true, false, if◌then◌else◌, List, map, None, refl, ap, ◌∙◌}
 use Rattle.krml_syntax.specs.declared.tree.IntTy.{IntTy}
-use Rattle.krml_syntax.specs.declared.tree.Ty.{Ty}
+use Rattle.krml_syntax.specs.declared.tree.Ty.{Ty, out-Ty}
 use Rattle.krml_syntax.specs.declared.tree.Ty.TheVariants as ty
 use Rattle.krml_syntax.specs.declared.tree.BinOp.{BinOp}
 use Rattle.krml_syntax.specs.declared.tree.CmpOp.{CmpOp}
@@ -11,6 +11,8 @@ use Rattle.krml_syntax.specs.declared.tree.Expr.{Expr}
 use Rattle.krml_syntax.specs.declared.tree.Expr.TheVariants as e
 use Rattle.krml_syntax.specs.declared.tree.Expr.TheFolds.{fold-Item, fold_out-Expr, fold_out-Item}
 use Rattle.krml_syntax.specs.declared.tree.Def.{Def}
+use Rattle.krml_ast.specs.Names.{struct_named, fun_named}
+use Rattle.krml_cstar.specs.Types.{is_unit}
 use Rattle.krml_cstar.specs.Variables as variables
 use Rattle.krml_cstar.specs.Numbers as numbers
 use Rattle.krml_cstar.specs.Translation as code
@@ -76,3 +78,23 @@ module _ (defs : List Def) where
 
   pub ran_is : (a : Expr) → item_code (item.Run a) ≡ code.done (code_of defs a)
   ran_is a = rw (fold_out-Item, item.outs-Run)
+
+  -- ---- what is looked up
+
+  -- a call gives nothing where its function does
+  pub call_unit : (x : List ℕ) (args : List Ty) (es : List Expr) → (code_of defs (e.Call x args es)).unit ≡ is_unit (code.result_of (fun_named defs x))
+  call_unit x args es = ap (λ o. o.unit) (call_is x args es) ∙ go (is_unit r)
+    where
+      r : Ty
+      r = code.result_of (fun_named defs x)
+
+      go : (b : Bool) → (if b then does (code.ran r x (map (code_of defs) es)) else gives (code.called r x (map (code_of defs) es))).unit ≡ b
+      go true = refl
+      go false = refl
+
+  pub no_function_unit : is_unit (code.result_of None) ≡ true
+  no_function_unit = rw (ty.outs-Unit) refl
+
+  -- the type of a field is that of the struct
+  pub field_type_is : (y x : List ℕ) (args : List Ty) → code.field_type defs y (out-Ty (ty.Named x args)) ≡ code.field_in (struct_named defs x) y
+  field_type_is y x args = rw (ty.outs-Named x args) refl
