@@ -25,9 +25,9 @@ use Rattle.krml_syntax.proofs.Types.{erased_bool, erased_int}
 use Rattle.krml_meaning.proofs.Entries.{width_is, one_more}
 use Rattle.krml_ctree.specs.declared.value.CValue.{CValue}
 use Rattle.krml_ctree.specs.Meaning as tgt
-use Rattle.krml_cstar.specs.Built.{is_ty_built, are_fields_built}
+use Rattle.krml_cstar.specs.Built.{is_ty_built}
 use Rattle.krml_cstar.proofs.Images.{image_at, images_at}
-use Rattle.krml_cstar.proofs.Part.{built_form}
+use Rattle.krml_cstar.proofs.Part.{FieldsBuilt, built_form}
 use Rattle.krml_cstar.proofs.Typed.{image_bool, image_num}
 use Rattle.krml_cstar.proofs.Fits.{param_types}
 
@@ -91,7 +91,7 @@ module _ (defs : List Def) where
     pub shapes : AllHaveShape defs [] values (param_types params)
     pub images : (c : tgt.Passed) → pass_all c (map tgt.passing args) ≡ record c { given = reverse (images_at defs values (param_types params)) ++ c.given }
 
-  pub all_passed : (params : List Field) (args : List Arg) (p : src.Passed) (ks : List src.Passing) → list_all fits args ≡ true → are_fields_built params ≡ true
+  pub all_passed : (params : List Field) (args : List Arg) (p : src.Passed) (ks : List src.Passing) → list_all fits args ≡ true → FieldsBuilt params
       → src.passings params args ≡ Some ks → AllPassed params args p (pass_all p ks)
   all_passed [] [] p ks fit b e = subst (λ z. AllPassed [] [] p (pass_all p z)) (same_some [] ks e)
       (record { values = []; given = refl; memory = refl; events = refl; shapes = AllHaveShape.none; images = λ c. refl })
@@ -99,11 +99,10 @@ module _ (defs : List Def) where
   all_passed (f ∷ params) [] p ks fit b e = absurd (no_some ks e)
   all_passed (f ∷ params) (g ∷ args) p ks fit b e =
       let both = and_parts (fits g) (list_all fits args) fit in
-      let parts = and_parts (is_ty_built f.ty) (are_fields_built params) b in
       let k = one_more (src.passing f.name g (out-Ty f.ty)) (src.passings params args) ks e in
-      let first = one_passed f.name k.first g both.0 f.ty parts.0 k.one in
+      let first = one_passed f.name k.first g both.0 f.ty b.0 k.one in
       let late : src.Passed = pass p (Plain (f.name, first.value)) in
-      let rest = all_passed params args late k.rest both.1 parts.1 k.more in
+      let rest = all_passed params args late k.rest both.1 b.1 k.more in
       let all : Plain (f.name, first.value) ∷ k.rest ≡ ks = ap (λ z. z ∷ k.rest) first.is ∙ k.all in
       subst (λ z. AllPassed (f ∷ params) (g ∷ args) p (pass_all p z)) all (record {
         values = first.value ∷ rest.values;

@@ -1,13 +1,14 @@
 -- A file whose definitions are built has the form of each file between passes: no pass before the last has anything to do.
-use Rattle.std.proofs.Common.{◌≡◌, ℕ, ◌≤◌, true, ◌&&◌, List, [], ◌∷◌, map, flat_map, Option, Some, None, inl, refl, sym, subst, arith}
+use Rattle.std.proofs.Common.{◌≡◌, ℕ, ◌≤◌, true, List, [], ◌∷◌, map, flat_map, Option, Some, None, inl, refl, sym, subst, arith}
 use Rattle.std.specs.List.{AllByRecursion}
-use Rattle.std.proofs.lemmas.Bool.{and_parts}
 use Rattle.krml_forms.specs.declared.form.Form.{Form as Word}
 use Rattle.krml_syntax.specs.declared.limit.LimitKind.{LimitKind}
 use Rattle.krml_syntax.specs.declared.limit.LimitKind.TheVariants as k
+use Rattle.krml_syntax.specs.declared.tree.Ty.{Ty, out-Ty}
+use Rattle.krml_syntax.specs.declared.tree.Ty.TheOpen.{Ty-F}
 use Rattle.krml_syntax.specs.declared.tree.Field.{Field}
+use Rattle.krml_syntax.specs.declared.tree.Expr.{out-Expr}
 use Rattle.krml_syntax.specs.declared.tree.Def.{Def}
-use Rattle.krml_syntax.specs.declared.tree.Def.TheVariants as d
 use Rattle.krml_syntax.specs.declared.tree.SourceFile.{SourceFile}
 use Rattle.krml_syntax.specs.Name.{IsName}
 use Rattle.krml_syntax.specs.Spelling.{Each, SpellsField, SpellsDef}
@@ -17,47 +18,49 @@ use Rattle.krml_syntax.specs.Shape.{Role}
 use Rattle.krml_syntax.proofs.Limits.{none_above}
 use Rattle.krml_ast.specs.WellTyped.{type_name, con_names, table_name, fun_name}
 use Rattle.krml_ast.specs.Pieces.{Piece, Value, Test, Pattern, Written, Bound, pieces_in}
-use Rattle.krml_ast.specs.FileTypes.{RoleIn, EachRole, role_of, HasSize, IsSlot, HasSlots, SlotsIn, HasNoMatch, HasNoTag, HasNoAlloc, HasNoSlots, ClosedIn, TestsIn, IsSourceName, IsVariable, IsTypedFile, IsChecked, IsMono, IsPlain, IsHoisted, field_names, bound_name, listed_vars}
+use Rattle.krml_ast.specs.FileTypes.{RoleIn, EachRole, role_of, IsClosedTy, HasSize, IsSlot, HasSlots, SlotsIn, HasNoMatch, HasNoTag, HasNoAlloc, HasNoSlots, ClosedIn, TestsIn, IsSourceName, IsVariable, IsTypedFile, IsChecked, IsMono, IsPlain, IsHoisted, field_names, bound_name, listed_vars}
 use Rattle.krml_meaning.specs.Sound.{CanRun}
 use Rattle.krml_meaning.proofs.Lists.{each_append, each_left, each_right, each_so}
 use Rattle.krml_meaning.proofs.Spelled.{IsSource, all_source, no_cases, no_slots}
-use Rattle.krml_cstar.specs.Built.{is_empty, is_ty_built, are_fields_built, is_expr_built, is_built, AreBuilt}
-use Rattle.krml_cstar.proofs.Part.{nothing_listed}
-use Rattle.krml_cstar.proofs.BuiltPieces.{InPart, built_pieces}
+use Rattle.krml_cstar.specs.Built.{level_ty_built, is_built, AreBuilt}
+use Rattle.krml_cstar.proofs.Part.{nothing_listed, PieceBuilt, def_built, built_pieces}
+use Rattle.krml_cstar.proofs.BuiltForms.{ordinary_built, arguments_built}
 
 -- ---- what follows for each piece of what is built
 
 -- what holds of an ordinary form
-role_so : (P : Role → Type 0) → P Role.ordinary → (x : Piece) → InPart x → RoleIn P x
-role_so P so (Value x) h = subst P (sym h.ordinary) so
-role_so P so (Test x) h = absurd h
+role_so : (P : Role → Type 0) → P Role.ordinary → (x : Piece) → PieceBuilt x → RoleIn P x
+role_so P so (Value x) h = subst P (sym (ordinary_built (out-Expr x) h)) so
+role_so P so (Test x) h = absurd (cc)
 role_so P so (Pattern q) h = tt
 role_so P so (Written a) h = tt
 role_so P so (Bound x) h = tt
 
-closed : (x : Piece) → InPart x → ClosedIn x
-closed (Value x) h = h.arguments
-closed (Test x) h = absurd h
-closed (Pattern q) h = absurd h
-closed (Written a) h = h
+closed_ty : (o : Ty-F Ty) → level_ty_built o ≡ true → IsClosedTy o
+closed_ty (Ty-F.Named x args) h = nothing_listed args h
+closed_ty (Ty-F.Var x) h = absurd (cc)
+closed_ty _ h = tt
+
+closed : (x : Piece) → PieceBuilt x → ClosedIn x
+closed (Value x) h = arguments_built (out-Expr x) h
+closed (Test x) h = absurd (cc)
+closed (Pattern q) h = absurd (cc)
+closed (Written a) h = closed_ty (out-Ty a) h
 closed (Bound x) h = tt
 
-no_tests : (x : Piece) → InPart x → TestsIn x
-no_tests (Value x) h = subst HasNoTag (sym h.ordinary) tt
-no_tests (Test x) h = absurd h
-no_tests (Pattern q) h = absurd h
+no_tests : (x : Piece) → PieceBuilt x → TestsIn x
+no_tests (Value x) h = subst HasNoTag (sym (ordinary_built (out-Expr x) h)) tt
+no_tests (Test x) h = absurd (cc)
+no_tests (Pattern q) h = absurd (cc)
 no_tests (Written a) h = tt
 no_tests (Bound x) h = tt
 
 module _ (defs : List Def) (built : AreBuilt defs) where
-  all : AllByRecursion InPart (pieces_in defs)
-  all = built_pieces defs built
-
   each_role : (P : Role → Type 0) → P Role.ordinary → EachRole P defs
-  each_role P so = each_so InPart (RoleIn P) (pieces_in defs) (role_so P so) all
+  each_role P so = each_so PieceBuilt (RoleIn P) (pieces_in defs) (role_so P so) (built_pieces defs built)
 
   tests : AllByRecursion TestsIn (pieces_in defs)
-  tests = each_so InPart TestsIn (pieces_in defs) no_tests all
+  tests = each_so PieceBuilt TestsIn (pieces_in defs) no_tests (built_pieces defs built)
 
   pub built_can_run : EachRole (CanRun defs) defs
   built_can_run = each_role (CanRun defs) tt
@@ -168,14 +171,7 @@ field_named f def (SpellsDef.entry ok) h = tt
 
 no_vars : (defs : List Def) → AreBuilt defs → flat_map listed_vars defs ≡ []
 no_vars [] h = refl
-no_vars (d.Struct x vars fields ∷ defs) h = rw (nothing_listed vars (and_parts (is_empty vars) (are_fields_built fields) h.0).0) (no_vars defs h.1)
-no_vars (d.Sum x vars cons ∷ defs) h = absurd (cc)
-no_vars (d.Table x i nums ∷ defs) h = no_vars defs h.1
-no_vars (d.Fun x vars params result body ∷ defs) h =
-    let one = and_parts (is_empty vars && are_fields_built params && is_ty_built result) (is_expr_built body) h.0 in
-    let two = and_parts (is_empty vars && are_fields_built params) (is_ty_built result) one.0 in
-    rw (nothing_listed vars (and_parts (is_empty vars) (are_fields_built params) two.0).0) (no_vars defs h.1)
-no_vars (d.Entry x ∷ defs) h = no_vars defs h.1
+no_vars (def ∷ defs) h = rw (def_built def h.0).none (no_vars defs h.1)
 
 -- ---- the files
 
@@ -204,7 +200,7 @@ is_mono file c built =
         fields = names field_names field_named;
         vars = bound_named (pieces_in defs) (all_source text file s);
       };
-      monomorphic = record { vars = no_vars defs built; pieces = each_so InPart ClosedIn (pieces_in defs) closed (all defs built) };
+      monomorphic = record { vars = no_vars defs built; pieces = each_so PieceBuilt ClosedIn (pieces_in defs) closed (built_pieces defs built) };
       cases = no_cases text file s;
       slots = no_slots text file s;
     }

@@ -1,7 +1,6 @@
 -- Calls of functions do in C what they do in the source, at every level, where their bodies do.
 use Rattle.std.proofs.Common.{◌≡◌, ℕ, ◌+◌, ◌≤◌, ◌^◌, Bool, true, false, if◌then◌else◌, List, [], ◌∷◌, length, Some, None, refl, sym, ap, ◌∙◌, subst, arith}
 use Rattle.std.specs.List.{AllByRecursion}
-use Rattle.std.proofs.lemmas.Bool.{and_parts}
 use Rattle.krml_trace.specs.Run.{Goes}
 use Rattle.krml_trace.proofs.Levels.{within_both}
 use Rattle.krml_trace.proofs.Simulates.{goes, sim_more_after}
@@ -28,14 +27,14 @@ use Rattle.krml_ctree.specs.declared.value.CValue.{CValue}
 use Rattle.krml_ctree.specs.declared.tree.CProgram.{CProgram}
 use Rattle.krml_ctree.specs.Parts.{Locals, has_type}
 use Rattle.krml_ctree.specs.Meaning as tgt
-use Rattle.krml_cstar.specs.Built.{is_ty_built, are_fields_built, is_expr_built, AreBuilt}
+use Rattle.krml_cstar.specs.Built.{is_ty_built, AreBuilt}
 use Rattle.krml_cstar.specs.Types.{ctype, is_unit}
 use Rattle.krml_cstar.specs.Variables.{Known}
 use Rattle.krml_cstar.specs.Translation.{Out, code_of, params_from, cvars}
 use Rattle.krml_cstar.specs.Count.{variables_of, HaveFewVariables}
 use Rattle.krml_cstar.proofs.Images.{image_at, images_at, the_image, state_image, Sim}
 use Rattle.krml_cstar.proofs.Lookups.{Lookups}
-use Rattle.krml_cstar.proofs.Part.{erased_built, fields_at_built, fields_erased_built, at_function, FunctionBuilt, function_built}
+use Rattle.krml_cstar.proofs.Part.{FieldsBuilt, ExprBuilt, erased_built, fields_at_built, fields_erased_built, at_function, FunctionBuilt, function_built}
 use Rattle.krml_cstar.proofs.Typed.{image_typed}
 use Rattle.krml_cstar.proofs.PartTypes.{type_part}
 use Rattle.krml_cstar.proofs.LocalsInC.{keeps_all}
@@ -46,7 +45,7 @@ use Rattle.krml_cstar.proofs.BuiltFiles.{built_can_run}
 -- What is said of bodies.
 abbrev pub BodiesFit : List Def → CProgram → Type 0
 BodiesFit defs p = (calls : src.Calls) (ccalls : tgt.Calls) → CallsSound defs calls → CallsFit defs calls ccalls → (vars : Vars) (x : Expr) (a : Ty) → AreParts p vars
-    → HasType defs [] (record { vars = vars; frame = None }) x a → is_expr_built x ≡ true → Fits defs p ccalls vars a (src.eval defs calls x) (code_of defs x)
+    → HasType defs [] (record { vars = vars; frame = None }) x a → ExprBuilt x → Fits defs p ccalls vars a (src.eval defs calls x) (code_of defs x)
 
 module _ (defs : List Def) (typed : AreWellTyped defs) (built : AreBuilt defs) (p : CProgram) (lookups : Lookups defs p) (few : HaveFewVariables defs) where
   -- what a body gives is what the function of C returns
@@ -68,13 +67,12 @@ module _ (defs : List Def) (typed : AreWellTyped defs) (built : AreBuilt defs) (
         rw (is, has) (goes (the_image defs) (λ x o. o ≡ Some (image_at defs x (erased r))) x (Some u) s refl)
 
   -- the parameters are values of types of the part
-  params_parts : (vars : List (List ℕ)) (params : List Field) → AllByRecursion (λ q. IsType defs vars q.ty) params → are_fields_built params ≡ true
+  params_parts : (vars : List (List ℕ)) (params : List Field) → AllByRecursion (λ q. IsType defs vars q.ty) params → FieldsBuilt params
       → AllByRecursion (λ q. IsValue q.ty) params → AreParts p (param_vars params)
   params_parts vars [] ok b nu = tt
   params_parts vars (q ∷ params) ok b nu =
-      let both = and_parts (is_ty_built q.ty) (are_fields_built params) b in
-      let part : IsPart p (erased q.ty) = subst (IsPart p) (sym (erased_built q.ty both.0)) (type_part p defs built lookups vars q.ty ok.0 both.0) in
-      ((part, value_erased q.ty nu.0), params_parts vars params ok.1 both.1 nu.1)
+      let part : IsPart p (erased q.ty) = subst (IsPart p) (sym (erased_built q.ty b.0)) (type_part p defs built lookups vars q.ty ok.0 b.0) in
+      ((part, value_erased q.ty nu.0), params_parts vars params ok.1 b.1 nu.1)
 
   module _ (fits : BodiesFit defs p) where
     pub calls_sound : (levels : ℕ) → CallsSound defs (src.enter defs levels)

@@ -2,7 +2,6 @@ pub mod Arguments
 pub mod Blocks
 pub mod BuiltFiles
 pub mod BuiltForms
-pub mod BuiltPieces
 pub mod Calls
 pub mod Choices
 pub mod Codes

@@ -2,7 +2,6 @@
 use Rattle.std.proofs.Common.{◌≡◌, ℕ, suc, ◌+◌, ◌≤◌, ◌^◌, Bool, true, false, if◌then◌else◌, List, [], ◌∷◌, length, Some, refl, sym, ap, ◌∙◌, subst, arith}
 use Rattle.std.specs.List.{AllByRecursion, IsDistinct}
 use Rattle.std.specs.Str.{bytes_eq}
-use Rattle.std.proofs.lemmas.Bool.{and_parts}
 use Rattle.std.proofs.lemmas.Slice.Eq.{bytes_eq-Decides}
 use Rattle.krml_syntax.specs.declared.tree.Field.{Field}
 use Rattle.krml_syntax.specs.declared.tree.Def.{Def}
@@ -19,23 +18,21 @@ use Rattle.krml_meaning.proofs.Levels.{param_vars}
 use Rattle.krml_ctree.specs.declared.value.CValue.{CValue}
 use Rattle.krml_ctree.specs.Parts.{Local, Locals}
 use Rattle.krml_ctree.specs.Meaning as tgt
-use Rattle.krml_cstar.specs.Built.{is_ty_built, are_fields_built}
 use Rattle.krml_cstar.specs.Types.{ctype}
 use Rattle.krml_cstar.specs.Variables.{Known, look, named}
 use Rattle.krml_cstar.specs.Translation.{params_from, cvars}
 use Rattle.krml_cstar.proofs.Images.{image_at, images_at}
-use Rattle.krml_cstar.proofs.Part.{erased_built}
+use Rattle.krml_cstar.proofs.Part.{FieldsBuilt, erased_built}
 use Rattle.krml_cstar.proofs.VariableNames.{number_of, number-named}
 use Rattle.krml_cstar.proofs.LocalsInC.{Keeps, Below, below_more, keeps_all, keeps_then, keeps_new, keeps_value, new_named, only_value}
 use Rattle.krml_cstar.proofs.Fits.{Named, param_types, Carries, Scoped}
 
 -- ---- as the translation has them
 
-pub params_named : (k : ℕ) (params : List Field) → are_fields_built params ≡ true → Named (param_vars params) (params_from k params)
+pub params_named : (k : ℕ) (params : List Field) → FieldsBuilt params → Named (param_vars params) (params_from k params)
 params_named k [] e = tt
 params_named k (p ∷ params) e =
-    let both = and_parts (is_ty_built p.ty) (are_fields_built params) e in
-    (record { name = refl; ty = sym (erased_built p.ty both.0) }, params_named (suc k) params both.1)
+    (record { name = refl; ty = sym (erased_built p.ty e.0) }, params_named (suc k) params e.1)
 
 -- ---- as the source has them
 

@@ -1,9 +1,8 @@
 -- The part of the language that is built: its types, and what its definitions keep.
-use Rattle.std.proofs.Common.{◌≡◌, ℕ, suc, Bool, true, false, not, ◌&&◌, if◌then◌else◌, List, [], ◌∷◌, map, length, Some, None, refl, sym, ap, ◌∙◌, subst, arith}
-use Rattle.std.specs.List.{AllByRecursion, IsDistinct}
+use Rattle.std.proofs.Common.{◌≡◌, ℕ, suc, Bool, true, false, not, ◌&&◌, List, [], ◌∷◌, ◌++◌, map, length, Some, refl, sym, ap, ◌∙◌, subst, arith}
+use Rattle.std.specs.List.{AllByRecursion, IsDistinct, list_all}
 use Rattle.std.specs.Str.{bytes_eq}
 use Rattle.std.proofs.lemmas.Bool.{eqb-true, and_parts}
-use Rattle.std.proofs.lemmas.Slice.Eq.{bytes_eq-Decides}
 use Rattle.krml_syntax.specs.declared.tree.IntTy.{IntTy}
 use Rattle.krml_syntax.specs.declared.tree.Ty.{Ty}
 use Rattle.krml_syntax.specs.declared.tree.Ty.TheVariants as t
@@ -12,19 +11,20 @@ use Rattle.krml_syntax.specs.declared.tree.Con.{Con}
 use Rattle.krml_syntax.specs.declared.tree.Expr.{Expr}
 use Rattle.krml_syntax.specs.declared.tree.Def.{Def}
 use Rattle.krml_syntax.specs.declared.tree.Def.TheVariants as d
+use Rattle.krml_ast.specs.Pieces.{Piece, Bound, pieces_of, pieces_of_ty, pieces_of_def, pieces_in, field_types}
+use Rattle.krml_ast.specs.FileTypes.{listed_vars}
 use Rattle.krml_ast.specs.Names.{Struct, Sum, Signature, type_named, table_named, fun_named}
 use Rattle.krml_syntax.specs.Types.{public, erased, type_at}
 use Rattle.krml_ast.specs.IsType.{IsValue, IsType}
 use Rattle.krml_ast.specs.Typing.{at, fields_at}
 use Rattle.krml_ast.specs.WellTyped.{names_of, WellTyped, AreWellTyped}
-use Rattle.krml_ast.proofs.Named.{struct_stands, sum_stands, table_stands, fun_stands}
+use Rattle.krml_ast.proofs.Named.{struct_stands, sum_stands, table_stands}
 use Rattle.krml_meaning.specs.Meaning as src
-use Rattle.krml_meaning.proofs.Lists.{same_answer, each_get, each_so}
-use Rattle.krml_meaning.proofs.Facts.{same_struct}
+use Rattle.krml_meaning.proofs.Lists.{same_answer, each_get, each_so, each_append, each_left, each_right}
 use Rattle.krml_syntax.proofs.Types.{erased_bool, erased_unit, erased_int, erased_named, at_bool, at_unit, at_int, at_named}
 use Rattle.krml_meaning.proofs.Flat.{by_form}
 use Rattle.krml_meaning.proofs.Files.{fun_found, each_def}
-use Rattle.krml_cstar.specs.Built.{is_public, is_empty, level_ty_built, is_ty_built, are_fields_built, is_expr_built, is_built, AreBuilt}
+use Rattle.krml_cstar.specs.Built.{is_public, is_empty, level_ty_built, is_ty_built, is_piece_built, is_sum, is_built, AreBuilt}
 
 -- ---- types
 
@@ -39,6 +39,9 @@ public_same i e = go i.secret refl e
     go : (b : Bool) → i.secret ≡ b → not b ≡ true → public i ≡ i
     go false q h = ap (λ s. record { width = i.width; secret = s }) (sym q)
     go true q h = absurd (cc)
+
+pub is_public_built : (i : IntTy) → is_ty_built (t.Int i) ≡ true → is_public i ≡ true
+is_public_built i h = sym (ap level_ty_built (t.outs-Int i)) ∙ h
 
 -- a type that is built is of one of these forms
 pub built_form : (P : Ty → Type 0) → P t.Bool → P t.Unit → ((i : IntTy) → is_public i ≡ true → P (t.Int i)) → ((x : List ℕ) → P (t.Named x []))
@@ -60,24 +63,25 @@ type_at_built vars args = built_form (λ a. type_at vars args a ≡ a) (at_bool 
 pub at_built : (vars : List (List ℕ)) (args : List Ty) (a : Ty) → is_ty_built a ≡ true → at vars args a ≡ a
 at_built vars args a e = ap erased (type_at_built vars args a e) ∙ erased_built a e
 
+abbrev pub FieldsBuilt : List Field → Type 0
+FieldsBuilt fields = AllByRecursion (λ f. is_ty_built f.ty ≡ true) fields
+
 -- the types of fields or parameters
 abbrev pub types_of : List Field → List Ty
 types_of fields = map (λ f. f.ty) fields
 
-pub fields_at_built : (vars : List (List ℕ)) (args : List Ty) (fields : List Field) → are_fields_built fields ≡ true → fields_at vars args fields ≡ types_of fields
+pub fields_at_built : (vars : List (List ℕ)) (args : List Ty) (fields : List Field) → FieldsBuilt fields → fields_at vars args fields ≡ types_of fields
 fields_at_built vars args [] e = refl
 fields_at_built vars args (f ∷ fields) e =
-    let both = and_parts (is_ty_built f.ty) (are_fields_built fields) e in
-    ap (λ z. z ∷ fields_at vars args fields) (at_built vars args f.ty both.0) ∙ ap (λ z. f.ty ∷ z) (fields_at_built vars args fields both.1)
+    ap (λ z. z ∷ fields_at vars args fields) (at_built vars args f.ty e.0) ∙ ap (λ z. f.ty ∷ z) (fields_at_built vars args fields e.1)
 
-pub fields_erased_built : (fields : List Field) → are_fields_built fields ≡ true → map (λ f. erased f.ty) fields ≡ types_of fields
+pub fields_erased_built : (fields : List Field) → FieldsBuilt fields → map (λ f. erased f.ty) fields ≡ types_of fields
 fields_erased_built [] e = refl
 fields_erased_built (f ∷ fields) e =
-    let both = and_parts (is_ty_built f.ty) (are_fields_built fields) e in
-    ap (λ z. z ∷ map (λ (g : Field). erased g.ty) fields) (erased_built f.ty both.0) ∙ ap (λ z. f.ty ∷ z) (fields_erased_built fields both.1)
+    ap (λ z. z ∷ map (λ (g : Field). erased g.ty) fields) (erased_built f.ty e.0) ∙ ap (λ z. f.ty ∷ z) (fields_erased_built fields e.1)
 
 -- the types of fields and of parameters, at any type arguments
-pub types_here : (vars : List (List ℕ)) (args : List Ty) (fields : List Field) → are_fields_built fields ≡ true → fields_at vars args fields ≡ map (λ f. erased f.ty) fields
+pub types_here : (vars : List (List ℕ)) (args : List Ty) (fields : List Field) → FieldsBuilt fields → fields_at vars args fields ≡ map (λ f. erased f.ty) fields
 types_here vars args fields e = fields_at_built vars args fields e ∙ sym (fields_erased_built fields e)
 
 -- ---- what holds of each definition holds of the one that a name means
@@ -97,6 +101,55 @@ module _ (P : Def → Type 0) where
   pub at_table : (defs : List Def) (x : List ℕ) (i : IntTy) → AllByRecursion P defs → table_named defs x ≡ Some i → (nums : List ℕ) × P (d.Table x i nums)
   at_table defs x i h e = let s = table_stands defs x i e in (s.0, each_get P defs s.1.0 (d.Table x i s.0) h s.1.1)
 
+-- ---- what is built, piece by piece
+
+abbrev pub PieceBuilt : Piece → Type 0
+PieceBuilt x = is_piece_built x ≡ true
+
+abbrev pub AllBuilt : List Piece → Type 0
+AllBuilt pieces = AllByRecursion PieceBuilt pieces
+
+abbrev pub ExprBuilt : Expr → Type 0
+ExprBuilt x = AllBuilt (pieces_of x)
+
+all_built : (pieces : List Piece) → list_all is_piece_built pieces ≡ true → AllBuilt pieces
+all_built [] h = tt
+all_built (x ∷ pieces) h = let k = and_parts (is_piece_built x) (list_all is_piece_built pieces) h in (k.0, all_built pieces k.1)
+
+-- no sum, and without type variables
+pub record DefBuilt (def : Def) : Type 0 where
+  pub no_sum : not (is_sum def) ≡ true
+  pub none : listed_vars def ≡ []
+  pub pieces : AllBuilt (pieces_of_def def)
+
+pub def_built : (def : Def) → is_built def ≡ true → DefBuilt def
+def_built def h =
+    let one = and_parts (not (is_sum def) && is_empty (listed_vars def)) (list_all is_piece_built (pieces_of_def def)) h in
+    let two = and_parts (not (is_sum def)) (is_empty (listed_vars def)) one.0 in
+    record { no_sum = two.0; none = nothing_listed (listed_vars def) two.1; pieces = all_built (pieces_of_def def) one.1 }
+
+pub built_pieces : (defs : List Def) → AreBuilt defs → AllBuilt (pieces_in defs)
+built_pieces [] h = tt
+built_pieces (def ∷ defs) h = each_append PieceBuilt (pieces_of_def def) (pieces_in defs) (def_built def h.0).pieces (built_pieces defs h.1)
+
+pub fields_built : (fields : List Field) → AllBuilt (field_types fields) → FieldsBuilt fields
+fields_built [] h = tt
+fields_built (f ∷ fields) h = (h.0, fields_built fields (each_right PieceBuilt (pieces_of_ty f.ty) (field_types fields) h))
+
+pub record FunBuilt (vars : List (List ℕ)) (params : List Field) (r : Ty) (x : Expr) : Type 0 where
+  pub none : vars ≡ []
+  pub types : FieldsBuilt params
+  pub result : is_ty_built r ≡ true
+  pub body : ExprBuilt x
+
+pub fun_built : (x : List ℕ) (vars : List (List ℕ)) (params : List Field) (result : Ty) (body : Expr) → DefBuilt (d.Fun x vars params result body) → FunBuilt vars params result body
+fun_built x vars params result body b =
+    let names : List Piece = map (λ (p : Field). Bound p.name) params in
+    let head = each_left PieceBuilt (field_types params ++ names ++ pieces_of_ty result) (pieces_of body) b.pieces in
+    let gives = each_right PieceBuilt (field_types params ++ names) (pieces_of_ty result) head in
+    let types = each_left PieceBuilt (field_types params) names (each_left PieceBuilt (field_types params ++ names) (pieces_of_ty result) head) in
+    record { none = b.none; types = fields_built params types; result = gives.0; body = each_right PieceBuilt (field_types params ++ names ++ pieces_of_ty result) (pieces_of body) b.pieces }
+
 -- ---- the definitions of a file that is built
 
 -- there is no sum
@@ -106,7 +159,7 @@ no_sum defs h x vars cons e = let s = sum_stands defs x vars cons e in let built
 -- a struct has no type variables, and its fields are values of types that are built, with names that differ
 pub record StructBuilt (vars : List (List ℕ)) (fields : List Field) : Type 0 where
   pub none : vars ≡ []
-  pub types : are_fields_built fields ≡ true
+  pub types : FieldsBuilt fields
   pub values : AllByRecursion (λ f. IsValue f.ty) fields
   pub distinct : IsDistinct bytes_eq (names_of fields)
 
@@ -114,11 +167,11 @@ pub record StructBuilt (vars : List (List ℕ)) (fields : List Field) : Type 0 w
 -- result, or it is unit; and its body is built
 pub record FunctionBuilt (f : Signature) (a : Expr) : Type 0 where
   pub none : f.vars ≡ []
-  pub types : are_fields_built f.params ≡ true
+  pub types : FieldsBuilt f.params
   pub values : AllByRecursion (λ p. IsValue p.ty) f.params
   pub distinct : IsDistinct bytes_eq (names_of f.params)
   pub result : is_ty_built f.result ≡ true
-  pub body : is_expr_built a ≡ true
+  pub body : ExprBuilt a
 
 abbrev ValuesIn : Def → Type 0
 ValuesIn (d.Struct x vars fields) = AllByRecursion (λ f. IsValue f.ty) fields × IsDistinct bytes_eq (names_of fields)
@@ -135,19 +188,18 @@ values_in defs before def (WellTyped.entry new is none outside answer) = tt
 module _ (defs : List Def) (typed : AreWellTyped defs) (built : AreBuilt defs) where
   pub struct_built : (x : List ℕ) (vars : List (List ℕ)) (fields : List Field) → type_named defs x ≡ Some (Struct vars fields) → StructBuilt vars fields
   struct_built x vars fields e =
-      let b : (is_empty vars && are_fields_built fields) ≡ true = at_struct (λ def. is_built def ≡ true) defs x vars fields built e in
-      let both = and_parts (is_empty vars) (are_fields_built fields) b in
+      let b = def_built (d.Struct x vars fields) (at_struct (λ def. is_built def ≡ true) defs x vars fields built e) in
       let v = at_struct ValuesIn defs x vars fields (each_def defs typed ValuesIn (values_in defs)) e in
-      record { none = nothing_listed vars both.0; types = both.1; values = v.0; distinct = v.1 }
+      record { none = b.none; types = fields_built fields b.pieces; values = v.0; distinct = v.1 }
 
   pub function_built : (x : List ℕ) (f : Signature) (fun : src.Function) → fun_named defs x ≡ Some f → src.function_named defs x ≡ Some fun → FunctionBuilt f fun.body
   function_built x f fun e q =
-      let b : (is_empty f.vars && are_fields_built f.params && is_ty_built f.result && is_expr_built fun.body) ≡ true = at_function (λ def. is_built def ≡ true) defs x f fun built e q in
-      let one = and_parts (is_empty f.vars && are_fields_built f.params && is_ty_built f.result) (is_expr_built fun.body) b in
-      let two = and_parts (is_empty f.vars && are_fields_built f.params) (is_ty_built f.result) one.0 in
-      let three = and_parts (is_empty f.vars) (are_fields_built f.params) two.0 in
+      let b = at_function (λ def. is_built def ≡ true) defs x f fun built e q in
+      let k = fun_built x f.vars f.params f.result fun.body (def_built (d.Fun x f.vars f.params f.result fun.body) b) in
       let v = at_function ValuesIn defs x f fun (each_def defs typed ValuesIn (values_in defs)) e q in
-      record { none = nothing_listed f.vars three.0; types = three.1; values = v.0; distinct = v.1; result = two.1; body = one.1 }
+      record { none = k.none; types = k.types; values = v.0; distinct = v.1; result = k.result; body = k.body }
 
   pub table_built : (x : List ℕ) (i : IntTy) → table_named defs x ≡ Some i → is_public i ≡ true
-  table_built x i e = let k = at_table (λ def. is_built def ≡ true) defs x i built e in k.1
+  table_built x i e =
+      let k = at_table (λ def. is_built def ≡ true) defs x i built e in
+      is_public_built i (def_built (d.Table x i k.0) k.1).pieces.0

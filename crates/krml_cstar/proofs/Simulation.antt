@@ -1,13 +1,11 @@
 -- The translation of an expression does what the expression does: by recursion on what says that it has its type.
-use Rattle.std.proofs.Common.{◌≡◌, ℕ, ◌+◌, true, false, ◌&&◌, List, [], ◌∷◌, map, length, None, refl, sym, ap, ◌∙◌, subst}
+use Rattle.std.proofs.Common.{◌≡◌, ℕ, ◌+◌, true, false, List, [], ◌∷◌, map, length, None, refl, sym, ap, subst}
 use Rattle.std.specs.List.{AllByRecursion}
-use Rattle.std.proofs.lemmas.Bool.{and_parts}
 use Rattle.krml_trace.specs.declared.width.Width.TheVariants.{W32}
 use Rattle.krml_syntax.specs.declared.tree.Ty.{Ty}
 use Rattle.krml_syntax.specs.declared.tree.Ty.TheVariants as t
 use Rattle.krml_syntax.specs.declared.tree.Field.{Field}
 use Rattle.krml_syntax.specs.declared.tree.Item.{Item}
-use Rattle.krml_syntax.specs.declared.tree.Item.TheVariants as item
 use Rattle.krml_syntax.specs.declared.tree.Expr.{Expr}
 use Rattle.krml_syntax.specs.declared.tree.Expr.TheVariants as e
 use Rattle.krml_syntax.specs.declared.tree.Expr.TheOpen.{Expr-F}
@@ -26,22 +24,22 @@ use Rattle.krml_meaning.proofs.Forms.{CallsSound}
 use Rattle.krml_meaning.proofs.Evals as evals
 use Rattle.krml_ctree.specs.declared.tree.CProgram.{CProgram}
 use Rattle.krml_ctree.specs.Meaning as tgt
-use Rattle.krml_cstar.specs.Built.{is_public, is_empty, all, is_ty_built, are_fields_built, is_expr_built, is_item_built, AreBuilt}
+use Rattle.krml_cstar.specs.Built.{is_ty_built, AreBuilt}
 use Rattle.krml_cstar.specs.Translation as code
 use Rattle.krml_cstar.specs.Types.{is_unit}
 use Rattle.krml_cstar.specs.Translation.{Comp, ItemComp, code_of}
 use Rattle.krml_cstar.proofs.Lookups.{Lookups}
-use Rattle.krml_cstar.proofs.Part.{nothing_listed, erased_built, at_built, StructBuilt, FunctionBuilt, struct_built, function_built, types_here}
+use Rattle.krml_cstar.proofs.Part.{FieldsBuilt, ExprBuilt, is_public_built, erased_built, at_built, StructBuilt, FunctionBuilt, struct_built, function_built, types_here}
 use Rattle.krml_cstar.proofs.Typed.{each_value}
 use Rattle.krml_cstar.proofs.PartTypes.{number_part, type_part}
-use Rattle.krml_cstar.proofs.BuiltForms.{is_public_built, PartsBuilt, form_built, unbuilt, block_built, let_built, run_built}
+use Rattle.krml_cstar.proofs.BuiltForms.{PartsBuilt, form_built, unbuilt, block_built, let_built, run_built}
 use Rattle.krml_cstar.proofs.Codes as codes
 use Rattle.krml_cstar.proofs.Fits.{IsPart, AreParts, param_types, CallsFit, Fits}
 use Rattle.krml_cstar.proofs.Forms.{number_value, unit_fits, var_fits}
 use Rattle.krml_cstar.proofs.Operators.{binary_fits, shift_fits, compare_fits, opposite_fits, cast_fits, num_fits, truth_fits}
 use Rattle.krml_cstar.proofs.Choices.{choice_fits}
 use Rattle.krml_cstar.proofs.Blocks.{FitItems, no_items_fit, bound_fits, ran_fits, block_fits}
-use Rattle.krml_cstar.proofs.Structs.{field_among, fields_each_built, FitsAll, none_fit, more_fit, make_fits, get_fits}
+use Rattle.krml_cstar.proofs.Structs.{field_among, FitsAll, none_fit, more_fit, make_fits, get_fits}
 use Rattle.krml_cstar.proofs.Calls.{tab_fits, call_fits}
 use Rattle.krml_cstar.proofs.Loops.{while_fits, for_fits}
 use Rattle.krml_cstar.proofs.Levels.{BodiesFit}
@@ -52,7 +50,7 @@ module _ (defs : List Def) (typed : AreWellTyped defs) (built : AreBuilt defs) (
   AreValues types = AllByRecursion (λ a. is_unit a ≡ false) types
 
   module _ (source : src.Calls) (calls : tgt.Calls) (hk : CallsSound defs source) (kf : CallsFit defs source calls) where
-    values_at : (vars : List (List ℕ)) (args : List Ty) (fields : List Field) → are_fields_built fields ≡ true → AllByRecursion (λ f. IsValue f.ty) fields → AreValues (fields_at vars args fields)
+    values_at : (vars : List (List ℕ)) (args : List Ty) (fields : List Field) → FieldsBuilt fields → AllByRecursion (λ f. IsValue f.ty) fields → AreValues (fields_at vars args fields)
     values_at vars args fields e h = subst AreValues (sym (types_here vars args fields e)) (each_value defs built fields h)
 
     -- ---- the type that a form asks for
@@ -76,7 +74,7 @@ module _ (defs : List Def) (typed : AreWellTyped defs) (built : AreBuilt defs) (
 
     mutual
       -- an expression that is built
-      pub fits : (g : Scope) (x : Expr) (r : Ty) → HasType defs [] g x r → is_expr_built x ≡ true → AreParts p g.vars → (k : ℕ)
+      pub fits : (g : Scope) (x : Expr) (r : Ty) → HasType defs [] g x r → ExprBuilt x → AreParts p g.vars → (k : ℕ)
           → Fits defs p calls g.vars r ((evals.means defs source x).from k) (code_of defs x)
       fits g x r (HasType.var {x = y} h) b parts k = rw (evals.var_is defs source y, codes.var_is defs y) (var_fits defs p calls g.vars y r parts h)
       fits g x r HasType.unit b parts k = rw (evals.unit_is defs source, codes.unit_is defs) (unit_fits defs p calls g.vars)
@@ -107,7 +105,7 @@ module _ (defs : List Def) (typed : AreWellTyped defs) (built : AreBuilt defs) (
           (make_fits defs p calls typed built lookups g.vars y vars fields _ (map (code_of defs) es) is
           (all_as g.vars (fields_at vars args fields) (param_types fields) _ (map (code_of defs) es) (types_here vars args fields sb.types) hs)))
       fits g x r (HasType.get {x = s} {y = y} {vars = vars} {fields = fields} args {a = a} {b = c} da is c_is) b parts k =
-          let bc = field_among (λ z. is_ty_built z ≡ true) fields y c (fields_each_built fields (struct_built defs typed built s vars fields is).types) c_is in
+          let bc = field_among (λ z. is_ty_built z ≡ true) fields y c (struct_built defs typed built s vars fields is).types c_is in
           rw (evals.get_is defs source y a, codes.get_is defs y a) (as_type g.vars c (at vars args c) _ _ (sym (at_built vars args c bc))
           (get_fits defs p calls typed built lookups g.vars s y args vars fields c _ (code_of defs a) is c_is (fits g a (t.Named s args) da (form_built x (Expr-F.Get y a) (e.outs-Get y a) b).parts.0 parts k)))
       fits g x r (HasType.tab {x = y} {i = i} {a = a} is da) b parts k = rw (evals.tab_is defs source y a, codes.tab_is defs y a)
@@ -139,18 +137,18 @@ module _ (defs : List Def) (typed : AreWellTyped defs) (built : AreBuilt defs) (
           (call_as g.vars f.result y args (each_from (map (evals.means defs source) es) k) _ h.arguments
           (call_fits defs typed built p lookups calls source hk kf g.vars y f _ (map (code_of defs) es) is
           (all_as g.vars (fields_at f.vars args f.params) (param_types f.params) _ (map (code_of defs) es) (types_here f.vars args f.params fb.types) hs))))
-      fits g x r (HasType.hide {i = i} {a = a} da) b parts k = unbuilt x (Expr-F.Hide i a) (e.outs-Hide i a) refl b
-      fits g x r (HasType.con {x = y} {args = args} {es = es} is n oks ds) b parts k = unbuilt x (Expr-F.Con y args es) (e.outs-Con y args es) refl b
-      fits g x r (HasType.read {a = a} {i = i} da di) b parts k = unbuilt x (Expr-F.Read a i) (e.outs-Read a i) refl b
-      fits g x r (HasType.write {a = a} {i = i} {v = w} da di dv) b parts k = unbuilt x (Expr-F.Write a i w) (e.outs-Write a i w) refl b
-      fits g x r (HasType.slice {a = a} {i = i} {n = n} c da di dn) b parts k = unbuilt x (Expr-F.Slice a i n) (e.outs-Slice a i n) refl b
-      fits g x r (HasType.match {a = a} {x = y} {xs = ys} da nu ds) b parts k = unbuilt x (Expr-F.Match a (y ∷ ys)) (e.outs-Match a (y ∷ ys)) refl b
-      fits g x r (HasType.frame {slots = slots} {a = a} da res) b parts k = unbuilt x (Expr-F.Frame slots a) (e.outs-Frame slots a) refl b
-      fits g x r (HasType.alloc {b = c} {n = n} {a = a} is ok f least most da) b parts k = unbuilt x (Expr-F.Alloc c n a) (e.outs-Alloc c n a) refl b
-      fits g x r (HasType.cases {x = y} {xs = ys} ds) b parts k = unbuilt x (Expr-F.Cases (y ∷ ys)) (e.outs-Cases (y ∷ ys)) refl b
-      fits g x r (HasType.tag_is {x = y} args {a = a} is da) b parts k = unbuilt x (Expr-F.TagIs y a) (e.outs-TagIs y a) refl b
-      fits g x r (HasType.part {x = y} {j = j} args {a = a} is da b_is) b parts k = unbuilt x (Expr-F.Part y j a) (e.outs-Part y j a) refl b
-      fits g x r (HasType.fill {k = j} {a = a} is s_is da) b parts k = unbuilt x (Expr-F.Fill j a) (e.outs-Fill j a) refl b
+      fits g x r (HasType.hide {i = i} {a = a} da) b parts k = unbuilt x (Expr-F.Hide i a) (e.outs-Hide i a) refl b.0
+      fits g x r (HasType.con {x = y} {args = args} {es = es} is n oks ds) b parts k = unbuilt x (Expr-F.Con y args es) (e.outs-Con y args es) refl b.0
+      fits g x r (HasType.read {a = a} {i = i} da di) b parts k = unbuilt x (Expr-F.Read a i) (e.outs-Read a i) refl b.0
+      fits g x r (HasType.write {a = a} {i = i} {v = w} da di dv) b parts k = unbuilt x (Expr-F.Write a i w) (e.outs-Write a i w) refl b.0
+      fits g x r (HasType.slice {a = a} {i = i} {n = n} c da di dn) b parts k = unbuilt x (Expr-F.Slice a i n) (e.outs-Slice a i n) refl b.0
+      fits g x r (HasType.match {a = a} {x = y} {xs = ys} da nu ds) b parts k = unbuilt x (Expr-F.Match a (y ∷ ys)) (e.outs-Match a (y ∷ ys)) refl b.0
+      fits g x r (HasType.frame {slots = slots} {a = a} da res) b parts k = unbuilt x (Expr-F.Frame slots a) (e.outs-Frame slots a) refl b.0
+      fits g x r (HasType.alloc {b = c} {n = n} {a = a} is ok f least most da) b parts k = unbuilt x (Expr-F.Alloc c n a) (e.outs-Alloc c n a) refl b.0
+      fits g x r (HasType.cases {x = y} {xs = ys} ds) b parts k = unbuilt x (Expr-F.Cases (y ∷ ys)) (e.outs-Cases (y ∷ ys)) refl b.0
+      fits g x r (HasType.tag_is {x = y} args {a = a} is da) b parts k = unbuilt x (Expr-F.TagIs y a) (e.outs-TagIs y a) refl b.0
+      fits g x r (HasType.part {x = y} {j = j} args {a = a} is da b_is) b parts k = unbuilt x (Expr-F.Part y j a) (e.outs-Part y j a) refl b.0
+      fits g x r (HasType.fill {k = j} {a = a} is s_is da) b parts k = unbuilt x (Expr-F.Fill j a) (e.outs-Fill j a) refl b.0
 
       -- operands
       fits_all : (g : Scope) (es : List Expr) (rs : List Ty) → AllHaveType defs [] g es rs → PartsBuilt (map Part.expr es) → AreValues rs → AreParts p g.vars → (k : ℕ)

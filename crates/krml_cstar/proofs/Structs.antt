@@ -3,7 +3,6 @@ use Rattle.std.proofs.Common.{◌≡◌, ℕ, ◌≤◌, ◌^◌, Bool, true, fa
 use Rattle.std.specs.Option.{option_or}
 use Rattle.std.specs.List.{AllByRecursion, IsDistinct}
 use Rattle.std.specs.Str.{bytes_eq}
-use Rattle.std.proofs.lemmas.Bool.{and_parts}
 use Rattle.krml_trace.specs.Run.{Goes, bind, with_some}
 use Rattle.krml_trace.specs.declared.why.Why.TheVariants.{Undefined}
 use Rattle.krml_trace.proofs.Simulates.{goes, sim_last_after, sim_some}
@@ -39,14 +38,14 @@ use Rattle.krml_ctree.specs.declared.tree.CProgram.{CProgram}
 use Rattle.krml_ctree.specs.Parts.{Locals, CRan}
 use Rattle.krml_ctree.specs.Meaning as tgt
 use Rattle.krml_ctree.proofs.Forms as forms
-use Rattle.krml_cstar.specs.Built.{is_ty_built, are_fields_built, AreBuilt}
+use Rattle.krml_cstar.specs.Built.{is_ty_built, AreBuilt}
 use Rattle.krml_cstar.specs.Translation as code
 use Rattle.krml_cstar.specs.Types.{is_unit}
 use Rattle.krml_cstar.specs.Variables.{KnownVars}
 use Rattle.krml_cstar.specs.Translation.{Comp, gives}
 use Rattle.krml_cstar.proofs.Images.{level_image, image_at, images_at, the_image, state_image, Sim}
 use Rattle.krml_cstar.proofs.Lookups.{Lookups, fields_of}
-use Rattle.krml_cstar.proofs.Part.{struct_built, erased_built, at_built, types_here}
+use Rattle.krml_cstar.proofs.Part.{FieldsBuilt, struct_built, erased_built, at_built, types_here}
 use Rattle.krml_cstar.proofs.Typed.{images_of_fields, image_struct, fields_fit}
 use Rattle.krml_cstar.proofs.PartTypes.{struct_part, type_part}
 use Rattle.krml_cstar.proofs.VariableNames.{name_is}
@@ -64,10 +63,6 @@ field_among P (f ∷ fields) y b h e = go (bytes_eq f.name y) e (field_among P f
     go : (same : Bool) → option_or (if same then Some f.ty else None) (field_named fields y) ≡ Some b → (field_named fields y ≡ Some b → P b) → P b
     go true q later = subst P (same_some f.ty b q) h.0
     go false q later = later q
-
-pub fields_each_built : (fields : List Field) → are_fields_built fields ≡ true → AllByRecursion (λ f. is_ty_built f.ty ≡ true) fields
-fields_each_built [] e = tt
-fields_each_built (f ∷ fields) e = let both = and_parts (is_ty_built f.ty) (are_fields_built fields) e in (both.0, fields_each_built fields both.1)
 
 module _ (defs : List Def) (p : CProgram) (calls : tgt.Calls) where
   -- ---- operands in order
@@ -171,15 +166,14 @@ module _ (defs : List Def) (p : CProgram) (calls : tgt.Calls) where
     none_named (f ∷ fields) [] y h = refl
     none_named (f ∷ fields) (x ∷ xs) y h = let e = other_name y f.name h.0 in let ih = none_named fields xs y h.1 in rw (e, ih) refl
 
-    one_named : (fields : List Field) (xs : List Value) (y : List ℕ) (b : Ty) (w : Value) → IsDistinct bytes_eq (names_of fields) → are_fields_built fields ≡ true
+    one_named : (fields : List Field) (xs : List Value) (y : List ℕ) (b : Ty) (w : Value) → IsDistinct bytes_eq (names_of fields) → FieldsBuilt fields
         → field_named fields y ≡ Some b → src.field_of (names_of fields) xs y ≡ Some w
         → tgt.fields_named (fields_of fields) (images_at defs xs (param_types fields)) y ≡ image_at defs w b ∷ []
     unfolding IsDistinct
     one_named [] xs y b w d built e q = absurd (no_some b e)
     one_named (f ∷ fields) [] y b w d built e q = absurd (no_some w q)
     one_named (f ∷ fields) (x ∷ xs) y b w d built e q =
-        let both = and_parts (is_ty_built f.ty) (are_fields_built fields) built in
-        go both.0 (bytes_eq f.name y) refl e q (one_named fields xs y b w d.1 both.1)
+        go built.0 (bytes_eq f.name y) refl e q (one_named fields xs y b w d.1 built.1)
       where
         go : is_ty_built f.ty ≡ true → (same : Bool) → bytes_eq f.name y ≡ same → option_or (if same then Some f.ty else None) (field_named fields y) ≡ Some b
             → (if same then Some x else src.field_of (names_of fields) xs y) ≡ Some w
@@ -226,7 +220,7 @@ module _ (defs : List Def) (p : CProgram) (calls : tgt.Calls) where
         → Fits defs p calls vars b (src.get y ev) (gives (code.operand co (code.got defs y)))
     get_fits vars x y args tvars fields b ev co is b_is h =
         let sb = struct_built defs typed built x tvars fields is in
-        let bb : is_ty_built b ≡ true = field_among (λ a. is_ty_built a ≡ true) fields y b (fields_each_built fields sb.types) b_is in
+        let bb : is_ty_built b ≡ true = field_among (λ a. is_ty_built a ≡ true) fields y b sb.types b_is in
         let nu : is_unit b ≡ false = field_among IsValue fields y b sb.values b_is in
         let here : at tvars args b ≡ b = at_built tvars args b bb in
         record {

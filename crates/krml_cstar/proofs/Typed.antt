@@ -1,7 +1,6 @@
 -- Values as C has them are of the C types that stand for theirs, in the part of the language that is built.
 use Rattle.std.proofs.Common.{◌≡◌, ℕ, suc, Bool, true, false, if◌then◌else◌, List, [], ◌∷◌, map, Some, refl, sym, ap, ◌∙◌, subst}
 use Rattle.std.specs.List.{AllByRecursion}
-use Rattle.std.proofs.lemmas.Bool.{and_parts}
 use Rattle.krml_trace.specs.declared.width.Width.{Width}
 use Rattle.krml_trace.specs.declared.width.Width.TheVariants.{W8, W32, W64}
 use Rattle.krml_syntax.specs.declared.tree.Ty.{Ty}
@@ -26,12 +25,12 @@ use Rattle.krml_ctree.specs.declared.tree.CVar.{CVar}
 use Rattle.krml_ctree.specs.Text.{width_type}
 use Rattle.krml_ctree.specs.Parts.{has_type}
 use Rattle.krml_ctree.specs.Meaning.{fit}
-use Rattle.krml_cstar.specs.Built.{level_ty_built, is_ty_built, are_fields_built, AreBuilt}
+use Rattle.krml_cstar.specs.Built.{level_ty_built, is_ty_built, AreBuilt}
 use Rattle.krml_cstar.specs.Types.{ctype, is_unit}
 use Rattle.krml_cstar.specs.Translation.{params_from, cvars}
 use Rattle.krml_cstar.proofs.Images.{level_image, field_images, image_at, images_at}
 use Rattle.krml_cstar.proofs.Lookups.{fields_of}
-use Rattle.krml_cstar.proofs.Part.{erased_built, no_sum}
+use Rattle.krml_cstar.proofs.Part.{FieldsBuilt, erased_built, no_sum}
 use Rattle.krml_cstar.proofs.TypesInC.{ctype_bool, ctype_int, ctype_named}
 
 -- ---- types as C has them
@@ -99,34 +98,31 @@ module _ (defs : List Def) where
         let tail = images_fit m ys more vars all b.1 nu.1 rest in
         rw (head, tail) refl
 
-    each_built : (fields : List Field) → are_fields_built fields ≡ true → AllByRecursion (λ a. is_ty_built a ≡ true) (map (λ f. erased f.ty) fields)
+    each_built : (fields : List Field) → FieldsBuilt fields → AllByRecursion (λ a. is_ty_built a ≡ true) (map (λ f. erased f.ty) fields)
     each_built [] e = tt
     each_built (f ∷ fields) e =
-        let both = and_parts (is_ty_built f.ty) (are_fields_built fields) e in
-        (subst (λ z. is_ty_built z ≡ true) (sym (erased_built f.ty both.0)) both.0, each_built fields both.1)
+        (subst (λ z. is_ty_built z ≡ true) (sym (erased_built f.ty e.0)) e.0, each_built fields e.1)
 
     pub each_value : (fields : List Field) → AllByRecursion (λ f. IsValue f.ty) fields → AllByRecursion IsValue (map (λ f. erased f.ty) fields)
     each_value [] h = tt
     each_value (f ∷ fields) h = (value_erased f.ty h.0, each_value fields h.1)
 
     -- the values of a struct's fields
-    pub fields_fit : (m : List Block) (xs : List Value) (fields : List Field) → AllHaveShape defs m xs (map (λ f. erased f.ty) fields) → are_fields_built fields ≡ true
+    pub fields_fit : (m : List Block) (xs : List Value) (fields : List Field) → AllHaveShape defs m xs (map (λ f. erased f.ty) fields) → FieldsBuilt fields
         → AllByRecursion (λ f. IsValue f.ty) fields → fit [] (fields_of fields) (images_at defs xs (map (λ f. erased f.ty) fields)) ≡ true
     fields_fit m xs fields h b nu = images_fit m xs (map (λ f. erased f.ty) fields) (fields_of fields) h (each_built fields b) (each_value fields nu) (types_are fields b)
       where
-        types_are : (fields : List Field) → are_fields_built fields ≡ true → map (λ (q : CVar). q.ty) (fields_of fields) ≡ map ctype (map (λ (f : Field). erased f.ty) fields)
+        types_are : (fields : List Field) → FieldsBuilt fields → map (λ (q : CVar). q.ty) (fields_of fields) ≡ map ctype (map (λ (f : Field). erased f.ty) fields)
         types_are [] e = refl
         types_are (f ∷ fields) e =
-            let both = and_parts (is_ty_built f.ty) (are_fields_built fields) e in
-            ap (λ z. ctype z ∷ map (λ (q : CVar). q.ty) (fields_of fields)) (sym (erased_built f.ty both.0)) ∙ ap (λ z. ctype (erased f.ty) ∷ z) (types_are fields both.1)
+            ap (λ z. ctype z ∷ map (λ (q : CVar). q.ty) (fields_of fields)) (sym (erased_built f.ty e.0)) ∙ ap (λ z. ctype (erased f.ty) ∷ z) (types_are fields e.1)
 
     -- the arguments of a function
-    pub arguments_fit : (m : List Block) (xs : List Value) (k : ℕ) (params : List Field) → AllHaveShape defs m xs (map (λ f. erased f.ty) params) → are_fields_built params ≡ true
+    pub arguments_fit : (m : List Block) (xs : List Value) (k : ℕ) (params : List Field) → AllHaveShape defs m xs (map (λ f. erased f.ty) params) → FieldsBuilt params
         → AllByRecursion (λ f. IsValue f.ty) params → fit [] (cvars (params_from k params)) (images_at defs xs (map (λ f. erased f.ty) params)) ≡ true
     arguments_fit m xs k params h b nu = images_fit m xs (map (λ f. erased f.ty) params) (cvars (params_from k params)) h (each_built params b) (each_value params nu) (types_are k params b)
       where
-        types_are : (k : ℕ) (params : List Field) → are_fields_built params ≡ true → map (λ (q : CVar). q.ty) (cvars (params_from k params)) ≡ map ctype (map (λ (f : Field). erased f.ty) params)
+        types_are : (k : ℕ) (params : List Field) → FieldsBuilt params → map (λ (q : CVar). q.ty) (cvars (params_from k params)) ≡ map ctype (map (λ (f : Field). erased f.ty) params)
         types_are k [] e = refl
         types_are k (f ∷ params) e =
-            let both = and_parts (is_ty_built f.ty) (are_fields_built params) e in
-            ap (λ z. ctype z ∷ map (λ (q : CVar). q.ty) (cvars (params_from (suc k) params))) (sym (erased_built f.ty both.0)) ∙ ap (λ z. ctype (erased f.ty) ∷ z) (types_are (suc k) params both.1)
+            ap (λ z. ctype z ∷ map (λ (q : CVar). q.ty) (cvars (params_from (suc k) params))) (sym (erased_built f.ty e.0)) ∙ ap (λ z. ctype (erased f.ty) ∷ z) (types_are (suc k) params e.1)

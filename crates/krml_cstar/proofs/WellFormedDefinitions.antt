@@ -1,10 +1,7 @@
 -- What the names of a bundled file that is built mean in its program.
-use Rattle.std.proofs.Common.{◌≡◌, ℕ, ◌<◌, ◌^◌, Bool, true, false, ◌&&◌, if◌then◌else◌, List, [], ◌∷◌, ◌++◌, map, flat_map, codes, Contains, Some, None, refl, sym, ap, ◌∙◌, subst, inl, inr, append_assoc}
-use Rattle.std.proofs.lemmas.Bool.{and_parts}
-use Rattle.std.proofs.lemmas.Slice.Eq.{bytes_eq-Decides}
+use Rattle.std.proofs.Common.{◌≡◌, ℕ, ◌<◌, ◌^◌, true, false, List, [], ◌∷◌, ◌++◌, map, flat_map, codes, Contains, Some, None, refl, sym, ap, ◌∙◌, subst, inl, inr, append_assoc}
 use Rattle.std.specs.Fmt.{decimal}
 use Rattle.std.specs.List.{AllByRecursion}
-use Rattle.std.specs.Str.{bytes_eq}
 use Rattle.krml_trace.specs.Width.{bits}
 use Rattle.krml_trace.proofs.Lists.{contains_first, contains_flat}
 use Rattle.krml_syntax.specs.declared.tree.IntTy.{IntTy}
@@ -31,10 +28,10 @@ use Rattle.krml_ctree.specs.WellFormed.{IsKnown}
 use Rattle.krml_meaning.proofs.Lists.{each_get, each_so, each_append, each_left, each_right}
 use Rattle.krml_syntax.proofs.Types.{at_none}
 use Rattle.krml_meaning.proofs.Files.{facts}
-use Rattle.krml_cstar.specs.Built.{is_ty_built, is_empty, are_fields_built, is_expr_built, is_built}
+use Rattle.krml_cstar.specs.Built.{is_ty_built}
 use Rattle.krml_cstar.specs.Types.{ctype}
 use Rattle.krml_cstar.specs.Translation.{fun_code, structs_of, tables_of, funs_of}
-use Rattle.krml_cstar.proofs.Part.{nothing_listed}
+use Rattle.krml_cstar.proofs.Part.{FieldsBuilt, DefBuilt, FunBuilt, fields_built, fun_built}
 use Rattle.krml_cstar.proofs.Lookups.{fields_of}
 use Rattle.krml_cstar.proofs.WellFormedNames.{decimal_is}
 use Rattle.krml_cstar.proofs.WellFormedCode.{TypeFits}
@@ -104,7 +101,7 @@ def_typed defs before def (WellTyped.entry new is none ps ans) = tt
 
 -- A definition is built, typed, and named as C has it.
 pub record DefFits (defs : List Def) (def : Def) : Type 0 where
-  pub built : is_built def ≡ true
+  pub built : DefBuilt def
   pub typed : DefTyped defs def
   pub size : HasSize def
   pub types : AllByRecursion IsStruct (type_name def)
@@ -112,28 +109,6 @@ pub record DefFits (defs : List Def) (def : Def) : Type 0 where
   pub funs : AllByRecursion IsFunction (fun_name def)
   pub fields : AllByRecursion IsField (field_names def)
   pub binds : BindVariables (pieces_of_def def)
-
--- ---- what is built
-
--- a struct has no type variables
-pub struct_built : (x : List ℕ) (vars : List (List ℕ)) (fields : List Field) → is_built (d.Struct x vars fields) ≡ true → (vars ≡ []) × (are_fields_built fields ≡ true)
-struct_built x vars fields h = let k = and_parts (is_empty vars) (are_fields_built fields) h in (nothing_listed vars k.0, k.1)
-
-pub record FunBuilt (vars : List (List ℕ)) (params : List Field) (result : Ty) (body : Expr) : Type 0 where
-  pub none : vars ≡ []
-  pub fields : are_fields_built params ≡ true
-  pub gives : is_ty_built result ≡ true
-  pub part : is_expr_built body ≡ true
-
-pub fun_built : (x : List ℕ) (vars : List (List ℕ)) (params : List Field) (result : Ty) (body : Expr) → is_built (d.Fun x vars params result body) ≡ true → FunBuilt vars params result body
-fun_built x vars params result body h = go (is_empty vars) (are_fields_built params) (is_ty_built result) (is_expr_built body) h refl refl refl refl
-  where
-    go : (i j k l : Bool) → (i && j && k && l) ≡ true → is_empty vars ≡ i → are_fields_built params ≡ j → is_ty_built result ≡ k → is_expr_built body ≡ l → FunBuilt vars params result body
-    go true true true true q qi qj qk ql = record { none = nothing_listed vars qi; fields = qj; gives = qk; part = ql }
-    go true true true false q qi qj qk ql = absurd (cc)
-    go true true false l q qi qj qk ql = absurd (cc)
-    go true false k l q qi qj qk ql = absurd (cc)
-    go false j k l q qi qj qk ql = absurd (cc)
 
 -- ---- types
 
@@ -150,11 +125,11 @@ struct_there defs ds x (Struct vars fields) h e =
     let fits = each_get (DefFits defs) ds s.0 (d.Struct x vars fields) h s.1 in
     record {
       fields = fields;
-      is = ap (λ vs. Struct vs fields) (struct_built x vars fields fits.built).0;
+      is = ap (λ vs. Struct vs fields) fits.built.none;
       there = contains_flat structs_of ds s.0 (d.Struct x vars fields) (record { name = x; fields = fields_of fields }) s.1 (contains_first _ []);
       shape = fits.types.0;
     }
-struct_there defs ds x (Sum vars cons) h e = let s = sum_stands ds x vars cons e in let b = (each_get (DefFits defs) ds s.0 (d.Sum x vars cons) h s.1).built in absurd (cc)
+struct_there defs ds x (Sum vars cons) h e = let s = sum_stands ds x vars cons e in let b = (each_get (DefFits defs) ds s.0 (d.Sum x vars cons) h s.1).built.no_sum in absurd (cc)
 
 -- structs are among others
 abbrev pub Among : List CStruct → List CStruct → Type 0
@@ -175,11 +150,10 @@ module _ (defs : List Def) where
 
   -- fields or parameters of types that are known
   pub parts_there : (p : CProgram) (fields : List Field) → ((a : Ty) → IsType defs [] a → is_ty_built a ≡ true → TypeFits p (ctype a))
-      → AllByRecursion (λ f. IsType defs [] f.ty × IsValue f.ty) fields → are_fields_built fields ≡ true → AllByRecursion (λ f. PartFits p f.ty) fields
+      → AllByRecursion (λ f. IsType defs [] f.ty × IsValue f.ty) fields → FieldsBuilt fields → AllByRecursion (λ f. PartFits p f.ty) fields
   parts_there p [] fits h built = tt
   parts_there p (f ∷ fields) fits h built =
-      let k = and_parts (is_ty_built f.ty) (are_fields_built fields) built in
-      (record { fits = fits f.ty h.0.0 k.0; value = h.0.1; closed = λ args. ap erased (at_none args f.ty) }, parts_there p fields fits h.1 k.1)
+      (record { fits = fits f.ty h.0.0 built.0; value = h.0.1; closed = λ args. ap erased (at_none args f.ty) }, parts_there p fields fits h.1 built.1)
 
   -- ---- look-ups
 
@@ -190,14 +164,14 @@ module _ (defs : List Def) where
   -- the definition of a struct
   record StructDef (x : List ℕ) (vars : List (List ℕ)) (fields : List Field) : Type 0 where
     values : AllByRecursion (λ f. IsValue f.ty) fields
-    built : are_fields_built fields ≡ true
+    built : FieldsBuilt fields
     shapes : AllByRecursion IsField (map (λ f. f.name) fields)
 
   struct_def : (ds : List Def) (x : List ℕ) (vars : List (List ℕ)) (fields : List Field) → AllByRecursion (DefFits defs) ds → type_named ds x ≡ Some (Struct vars fields) → StructDef x vars fields
   struct_def ds x vars fields h e =
       let s = struct_stands ds x vars fields e in
       let fits = each_get (DefFits defs) ds s.0 (d.Struct x vars fields) h s.1 in
-      record { values = fits.typed; built = (struct_built x vars fields fits.built).1; shapes = fits.fields }
+      record { values = fits.typed; built = fields_built fields fits.built.pieces; shapes = fits.fields }
 
   -- the definition of a table
   record TableThere (tables : List CTable) (x : List ℕ) (i : IntTy) : Type 0 where
@@ -276,8 +250,8 @@ module _ (defs : List Def) where
           result = refl;
           shape = g.shape;
           none = none;
-          each = parts_there p f.params fits params g.built.fields;
-          gives = fits f.result result g.built.gives;
+          each = parts_there p f.params fits params g.built.types;
+          gives = fits f.result result g.built.result;
           closed = λ args. ap erased (at_none args f.result);
         }
 

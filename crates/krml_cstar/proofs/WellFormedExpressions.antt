@@ -17,7 +17,7 @@ use Rattle.krml_ast.specs.Typing.{Vars, Scope, at, fields_at, HasType, AllHaveTy
 use Rattle.krml_ctree.specs.declared.tree.CProgram.{CProgram}
 use Rattle.krml_cstar.specs.Translation.{Comp, ItemComp, gives, built, call, code_step, item_step, code_of, items}
 use Rattle.krml_cstar.proofs.WellFormedPlaces.{HasStruct, Holds, Places, PlacesAll, ItemsPlace}
-use Rattle.krml_cstar.proofs.BuiltForms.{form_built, unbuilt}
+use Rattle.krml_cstar.proofs.BuiltForms.{no_arguments, unbuilt}
 use Rattle.krml_cstar.proofs.WellFormedParts.{IsReady, AreReady, parts_ready, for_variable, block_ready, let_ready, run_ready}
 use Rattle.krml_cstar.proofs.WellFormedForms.{unit_placed, bool_placed, num_placed, var_placed, bin_placed, shift_placed, cmp_placed, not_placed, cast_placed}
 use Rattle.krml_cstar.proofs.WellFormedBranches.{choice_placed, no_items_place, bound_place, ran_place, block_placed, while_placed, for_placed}
@@ -61,9 +61,9 @@ module _ (p : CProgram) (defs : List Def) (holds : Holds p defs) where
     placed g x r (HasType.not {a = a} da) pt = rw (fold_out-Expr, e.outs-Not) (not_placed p g.vars (code_of defs a) (placed g a t.Bool da (parts_ready x (Expr-F.Not a) (e.outs-Not a) pt).0))
     placed g x r (HasType.cast {i = i} {j = j} {a = a} da) pt =
         rw (fold_out-Expr, e.outs-Cast) (cast_placed p g.vars i j (code_of defs a) (placed g a (int_ty i) da (parts_ready x (Expr-F.Cast i j a) (e.outs-Cast i j a) pt).0))
-    placed g x r (HasType.hide {i = i} {a = a} da) pt = unbuilt x (Expr-F.Hide i a) (e.outs-Hide i a) refl pt.built
+    placed g x r (HasType.hide {i = i} {a = a} da) pt = unbuilt x (Expr-F.Hide i a) (e.outs-Hide i a) refl pt.0.built
     placed g x r (HasType.make {x = y} {vars = vars} {fields = fields} {args = args} {es = es} is n oks ds) pt =
-        let none = (form_built x (Expr-F.Make y args es) (e.outs-Make y args es) pt.built).arguments in
+        let none = no_arguments x (Expr-F.Make y args es) (e.outs-Make y args es) pt.0.built in
         let has = holds.struct y vars fields is in
         let types : fields_at vars args fields ≡ fields_at [] [] fields = ap (λ vs. fields_at vs args fields) has.none ∙ ap (λ as'. fields_at [] as' fields) none in
         let value = subst (AreValues p) (sym types) (closed_values p [] fields (parts_of p fields has.each)) in
@@ -71,21 +71,21 @@ module _ (p : CProgram) (defs : List Def) (holds : Holds p defs) where
         rw (fold_out-Expr, e.outs-Make) (make_at g.vars y vars fields args es has none all)
     placed g x r (HasType.get {x = y} {y = z} {vars = vars} {fields = fields} args {a = a} {b = b} da is there) pt =
         rw (fold_out-Expr, e.outs-Get) (get_placed p defs holds g.vars y z vars fields args b (code_of defs a) is there (placed g a (t.Named y args) da (parts_ready x (Expr-F.Get z a) (e.outs-Get z a) pt).0))
-    placed g x r (HasType.con {x = y} {args = args} {es = es} is n oks ds) pt = unbuilt x (Expr-F.Con y args es) (e.outs-Con y args es) refl pt.built
-    placed g x r (HasType.read {a = a} {i = i} da di) pt = unbuilt x (Expr-F.Read a i) (e.outs-Read a i) refl pt.built
-    placed g x r (HasType.write {a = a} {i = i} {v = v} da di dv) pt = unbuilt x (Expr-F.Write a i v) (e.outs-Write a i v) refl pt.built
-    placed g x r (HasType.slice {a = a} {i = i} {n = n} b da di dn) pt = unbuilt x (Expr-F.Slice a i n) (e.outs-Slice a i n) refl pt.built
+    placed g x r (HasType.con {x = y} {args = args} {es = es} is n oks ds) pt = unbuilt x (Expr-F.Con y args es) (e.outs-Con y args es) refl pt.0.built
+    placed g x r (HasType.read {a = a} {i = i} da di) pt = unbuilt x (Expr-F.Read a i) (e.outs-Read a i) refl pt.0.built
+    placed g x r (HasType.write {a = a} {i = i} {v = v} da di dv) pt = unbuilt x (Expr-F.Write a i v) (e.outs-Write a i v) refl pt.0.built
+    placed g x r (HasType.slice {a = a} {i = i} {n = n} b da di dn) pt = unbuilt x (Expr-F.Slice a i n) (e.outs-Slice a i n) refl pt.0.built
     placed g x r (HasType.tab {x = y} {i = i} {a = a} is da) pt =
         rw (fold_out-Expr, e.outs-Tab) (tab_placed p defs holds g.vars y i (code_of defs a) is (placed g a u32 da (parts_ready x (Expr-F.Tab y a) (e.outs-Tab y a) pt).0))
     placed g x r (HasType.choice {c = c} {a = a} {b = b} dc da db) pt =
         let k = parts_ready x (Expr-F.If c a b) (e.outs-If c a b) pt in
         rw (fold_out-Expr, e.outs-If) (choice_placed p g.vars r (code_of defs c) (code_of defs a) (code_of defs b) (placed g c t.Bool dc k.0) (placed g a r da k.1.0) (placed g b r db k.1.1.0))
-    placed g x r (HasType.match {a = a} {x = arm} {xs = arms} da v ds) pt = unbuilt x (Expr-F.Match a (arm ∷ arms)) (e.outs-Match a (arm ∷ arms)) refl pt.built
+    placed g x r (HasType.match {a = a} {x = arm} {xs = arms} da v ds) pt = unbuilt x (Expr-F.Match a (arm ∷ arms)) (e.outs-Match a (arm ∷ arms)) refl pt.0.built
     placed g x r (HasType.block {h = h} {items = is} {a = a} ds da) pt =
         let k = block_ready is a (parts_ready x (Expr-F.Do is a) (e.outs-Do is a) pt) in
         rw (fold_out-Expr, e.outs-Do) (block_placed p g.vars h.vars r (map item_code is) (code_of defs a) (items_placed g is h ds k.0) (placed h a r da k.1))
-    placed g x r (HasType.frame {slots = slots} {a = a} da ok) pt = unbuilt x (Expr-F.Frame slots a) (e.outs-Frame slots a) refl pt.built
-    placed g x r (HasType.alloc {b = b} {n = n} {a = a} fr ty flat some most da) pt = unbuilt x (Expr-F.Alloc b n a) (e.outs-Alloc b n a) refl pt.built
+    placed g x r (HasType.frame {slots = slots} {a = a} da ok) pt = unbuilt x (Expr-F.Frame slots a) (e.outs-Frame slots a) refl pt.0.built
+    placed g x r (HasType.alloc {b = b} {n = n} {a = a} fr ty flat some most da) pt = unbuilt x (Expr-F.Alloc b n a) (e.outs-Alloc b n a) refl pt.0.built
     placed g x r (HasType.while {c = c} {a = a} dc da) pt =
         let k = parts_ready x (Expr-F.While c a) (e.outs-While c a) pt in
         rw (fold_out-Expr, e.outs-While) (while_placed p g.vars (code_of defs c) (code_of defs a) (placed _ c t.Bool dc k.0) (placed _ a t.Unit da k.1.0))
@@ -94,16 +94,16 @@ module _ (p : CProgram) (defs : List Def) (holds : Holds p defs) where
         rw (fold_out-Expr, e.outs-For) (for_placed p g.vars y (code_of defs a) (code_of defs b) (code_of defs c) (for_variable y a b c pt)
         (placed g a u32 da k.0) (placed g b u32 db k.1.0) (placed _ c t.Unit dc k.1.1.0))
     placed g x r (HasType.call {x = y} {f = f} {args = args} {es = es} is n oks ds) pt =
-        let none = (form_built x (Expr-F.Call y args es) (e.outs-Call y args es) pt.built).arguments in
+        let none = no_arguments x (Expr-F.Call y args es) (e.outs-Call y args es) pt.0.built in
         let has = holds.function y f is in
         let types : fields_at f.vars args f.params ≡ fields_at [] [] f.params = ap (λ vs. fields_at vs args f.params) has.none ∙ ap (λ as'. fields_at [] as' f.params) none in
         let value = subst (AreValues p) (sym types) (closed_values p [] f.params has.each) in
         let all = subst (λ z. PlacesAll p g.vars z (map (code_of defs) es)) types (all_placed g es (fields_at f.vars args f.params) ds (parts_ready x (Expr-F.Call y args es) (e.outs-Call y args es) pt) value) in
         rw (fold_out-Expr, e.outs-Call) (call_at g.vars y f args es is none all)
-    placed g x r (HasType.cases {x = c} {xs = cs} ds) pt = unbuilt x (Expr-F.Cases (c ∷ cs)) (e.outs-Cases (c ∷ cs)) refl pt.built
-    placed g x r (HasType.tag_is {x = y} args {a = a} is da) pt = unbuilt x (Expr-F.TagIs y a) (e.outs-TagIs y a) refl pt.built
-    placed g x r (HasType.part {x = y} {j = j} args {a = a} is da there) pt = unbuilt x (Expr-F.Part y j a) (e.outs-Part y j a) refl pt.built
-    placed g x r (HasType.fill {k = k} {a = a} fr there da) pt = unbuilt x (Expr-F.Fill k a) (e.outs-Fill k a) refl pt.built
+    placed g x r (HasType.cases {x = c} {xs = cs} ds) pt = unbuilt x (Expr-F.Cases (c ∷ cs)) (e.outs-Cases (c ∷ cs)) refl pt.0.built
+    placed g x r (HasType.tag_is {x = y} args {a = a} is da) pt = unbuilt x (Expr-F.TagIs y a) (e.outs-TagIs y a) refl pt.0.built
+    placed g x r (HasType.part {x = y} {j = j} args {a = a} is da there) pt = unbuilt x (Expr-F.Part y j a) (e.outs-Part y j a) refl pt.0.built
+    placed g x r (HasType.fill {k = k} {a = a} fr there da) pt = unbuilt x (Expr-F.Fill k a) (e.outs-Fill k a) refl pt.0.built
 
     all_placed : (g : Scope) (es : List Expr) (types : List Ty) → AllHaveType defs [] g es types → AreReady (map Part.expr es) → AreValues p types → PlacesAll p g.vars types (map (code_of defs) es)
     all_placed g es types AllHaveType.none pt vs = none_placed p g.vars

@@ -1,6 +1,5 @@
 -- The program of a bundled file that is built is well formed.
 use Rattle.std.proofs.Common.{◌≡◌, ℕ, suc, ◌+◌, ◌<◌, ◌≤◌, ◌^◌, Bool, true, false, if◌then◌else◌, List, [], ◌∷◌, ◌++◌, map, flat_map, length, take, slice_get, Contains, Some, None, refl, sym, ap, ◌∙◌, subst, ◌⊎◌, inl, inr, append_assoc, append-nil, arith}
-use Rattle.std.proofs.lemmas.Bool.{and_parts}
 use Rattle.std.proofs.lemmas.Grind.{flat_map-append}
 use Rattle.std.proofs.lemmas.List.Elements.{Contains-append_left, Contains-append_right, Contains-append_cases}
 use Rattle.std.specs.List.{AllByRecursion, IsDistinct}
@@ -32,7 +31,7 @@ use Rattle.krml_ctree.specs.WellFormed as wf
 use Rattle.krml_ctree.specs.WellFormed.{Scope, of_var, IsKnown, AnswerFits, FunFits, StructsFit, TableFits, WellFormed}
 use Rattle.krml_meaning.proofs.Lists.{each_so, each_append, each_among, map_twice}
 use Rattle.krml_meaning.proofs.Files.{through, each_def}
-use Rattle.krml_cstar.specs.Built.{is_ty_built, are_fields_built, is_built}
+use Rattle.krml_cstar.specs.Built.{is_ty_built, is_built}
 use Rattle.krml_cstar.specs.Count.{HaveFewVariables, variables_of}
 use Rattle.krml_cstar.specs.Types.{ctype, is_unit}
 use Rattle.krml_cstar.specs.Variables.{named, KnownVars}
@@ -44,7 +43,8 @@ use Rattle.krml_cstar.proofs.WellFormedCode.{Within, TypeFits, declared}
 use Rattle.krml_cstar.proofs.WellFormedParts.{BindsVariable, BindVariables, binds_variables, left, right, ready}
 use Rattle.krml_cstar.proofs.WellFormedPlaces.{PartFits, Holds, InScope, Scoped, Placed, Places}
 use Rattle.krml_cstar.proofs.WellFormedExpressions.{placed}
-use Rattle.krml_cstar.proofs.WellFormedDefinitions.{each_both, each_apart, each_joined, struct_name, function_name, table_name_is, field_name, DefTyped, def_typed, DefFits, struct_built, fun_built, Among, type_there, parts_there, holds}
+use Rattle.krml_cstar.proofs.Part.{FieldsBuilt, def_built, fields_built, fun_built}
+use Rattle.krml_cstar.proofs.WellFormedDefinitions.{each_both, each_apart, each_joined, struct_name, function_name, table_name_is, field_name, DefTyped, def_typed, DefFits, Among, type_there, parts_there, holds}
 use Rattle.krml_cstar.proofs.TypesInC.{ctype_same, unit_erased}
 
 -- ---- functions
@@ -178,7 +178,7 @@ def_fits file emitted h built =
         → AllByRecursion (λ def. AllByRecursion IsField (field_names def)) ds → AllByRecursion (λ def. BindVariables (pieces_of_def def)) ds → AllByRecursion (DefFits file.defs) ds
     go [] a b c s t f m v = tt
     go (def ∷ ds) a b c s t f m v =
-        (record { built = a.0; typed = b.0; size = c.0; types = s.0; tables = t.0; funs = f.0; fields = m.0; binds = v.0 }, go ds a.1 b.1 c.1 s.1 t.1 f.1 m.1 v.1)
+        (record { built = def_built def a.0; typed = b.0; size = c.0; types = s.0; tables = t.0; funs = f.0; fields = m.0; binds = v.0 }, go ds a.1 b.1 c.1 s.1 t.1 f.1 m.1 v.1)
 
 -- ---- distinct names
 
@@ -239,7 +239,7 @@ module _ (defs : List Def) (typed : AreWellTyped defs) where
 structs_named : (defs ds : List Def) → AllByRecursion (DefFits defs) ds → map (λ s. s.name) (flat_map structs_of ds) ≡ flat_map type_name ds
 structs_named defs [] h = refl
 structs_named defs (d.Struct x vars fields ∷ ds) h = ap (λ z. x ∷ z) (structs_named defs ds h.1)
-structs_named defs (d.Sum x vars cons ∷ ds) h = let b = h.0.built in absurd (cc)
+structs_named defs (d.Sum x vars cons ∷ ds) h = let b = h.0.built.no_sum in absurd (cc)
 structs_named defs (d.Table x i nums ∷ ds) h = structs_named defs ds h.1
 structs_named defs (d.Fun x vars params result body ∷ ds) h = structs_named defs ds h.1
 structs_named defs (d.Entry x ∷ ds) h = structs_named defs ds h.1
@@ -290,13 +290,12 @@ abbrev of_structs : List CStruct → CProgram
 of_structs structs = record { structs = structs; tables = []; funs = [] }
 
 fields_fit : (p : CProgram) (before : List Def) (fields : List Field) → ((a : Ty) → IsType before [] a → is_ty_built a ≡ true → TypeFits p (ctype a))
-    → AllByRecursion (λ f. IsType before [] f.ty × IsValue f.ty) fields → are_fields_built fields ≡ true → AllByRecursion IsField (names_of fields)
+    → AllByRecursion (λ f. IsType before [] f.ty × IsValue f.ty) fields → FieldsBuilt fields → AllByRecursion IsField (names_of fields)
     → AllByRecursion FieldKeeps (fields_of fields) × AllByRecursion (λ f. IsKnown p.structs f.ty) (fields_of fields)
 fields_fit p before [] fit h built names = (tt, tt)
 fields_fit p before (f ∷ fields) fit h built names =
-    let k = and_parts (is_ty_built f.ty) (are_fields_built fields) built in
-    let ty = fit f.ty h.0.0 k.0 in
-    let rest = fields_fit p before fields fit h.1 k.1 names.1 in
+    let ty = fit f.ty h.0.0 built.0 in
+    let rest = fields_fit p before fields fit h.1 built.1 names.1 in
     ((record { ty = ty.keeps; name = names.0 }, rest.0), (ty.known, rest.1))
 
 module _ (defs : List Def) (typed : AreWellTyped defs) where
@@ -316,9 +315,8 @@ module _ (defs : List Def) (typed : AreWellTyped defs) where
           → AllByRecursion StructKeeps (flat_map structs_of rest) × StructsFit (structs_of def ++ earlier) (flat_map structs_of rest)
           → AllByRecursion StructKeeps (structs_of def ++ flat_map structs_of rest) × StructsFit earlier (structs_of def ++ flat_map structs_of rest)
       at (d.Struct x vars fields) ty fit later =
-          let k = struct_built x vars fields fit.built in
-          let types = subst (λ vs. AllByRecursion (λ f. IsType before vs f.ty × IsValue f.ty) fields) k.0 ty.1 in
-          let both = fields_fit (of_structs earlier) before fields (λ a ok b. type_there defs (of_structs earlier) before hb among a ok b) types k.1 fit.fields in
+          let types = subst (λ vs. AllByRecursion (λ f. IsType before vs f.ty × IsValue f.ty) fields) fit.built.none ty.1 in
+          let both = fields_fit (of_structs earlier) before fields (λ a ok b. type_there defs (of_structs earlier) before hb among a ok b) types (fields_built fields fit.built.pieces) fit.fields in
           let same : map (λ v. v.name) (fields_of fields) ≡ names_of fields = map_twice (λ f. record { ty = ctype f.ty; name = f.name }) (λ v. v.name) fields in (
             (record { name = fit.types.0; fields = both.0 }, later.0),
             (record { distinct = subst (IsDistinct bytes_eq) (sym same) ty.0; fields = both.1 }, later.1),
@@ -372,10 +370,10 @@ module _ (defs : List Def) (typed : AreWellTyped defs) (each : AllByRecursion (D
       let body_ok : HasType defs [] scope body (erased result) = subst (λ vs. HasType defs vs scope body (erased result)) b.none k.typed in
       record {
         name = fit.funs.0;
-        each = parts_there defs p params here.type_fits params_ok b.fields;
+        each = parts_there defs p params here.type_fits params_ok b.types;
         names = params_named params names;
-        gives = here.type_fits result result_ok b.gives;
-        body_places = placed p defs here scope body (erased result) body_ok (ready body b.part (right (bound ++ pieces_of_ty result) (pieces_of body) fit.binds));
+        gives = here.type_fits result result_ok b.result;
+        body_places = placed p defs here scope body (erased result) body_ok (ready body b.body (right (bound ++ pieces_of_ty result) (pieces_of body) fit.binds));
         few = small;
       }
 

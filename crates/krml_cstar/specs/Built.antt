@@ -1,25 +1,21 @@
--- The part of the language that is built: what a definition may hold.
+-- The part of the language that is built: what a definition may hold, piece by piece.
 use Rattle.std.specs.Prelude.{◌≡◌, ℕ, ◌==◌, Bool, true, false, not, ◌&&◌, List, length, Option, Some}
 use Rattle.std.specs.List.{AllByRecursion, list_all, position}
 use Rattle.krml_syntax.specs.declared.tree.IntTy.{IntTy}
 use Rattle.krml_syntax.specs.declared.tree.Ty.{Ty, out-Ty}
 use Rattle.krml_syntax.specs.declared.tree.Ty.TheOpen.{Ty-F}
-use Rattle.krml_syntax.specs.declared.tree.Field.{Field}
-use Rattle.krml_syntax.specs.declared.tree.Item.{Item}
-use Rattle.krml_syntax.specs.declared.tree.Expr.{Expr}
-use Rattle.krml_syntax.specs.declared.tree.Expr.TheOpen.{Expr-F, Item-F, Arm-F, Case-F}
-use Rattle.krml_syntax.specs.declared.tree.Expr.TheFolds.{fold-Expr, fold-Item}
+use Rattle.krml_syntax.specs.declared.tree.Expr.{out-Expr}
+use Rattle.krml_syntax.specs.declared.tree.Expr.TheOpen.{Expr-F}
 use Rattle.krml_syntax.specs.declared.tree.Def.{Def}
 use Rattle.krml_syntax.specs.declared.tree.Def.TheVariants as d
+use Rattle.krml_ast.specs.Pieces.{Piece, Value, Test, Pattern, Written, Bound, pieces_of_def}
+use Rattle.krml_ast.specs.FileTypes.{listed_vars}
 
 abbrev pub is_public : IntTy → Bool
 is_public i = not i.secret
 
 abbrev pub is_empty : {A : Type 0} → List A → Bool
 is_empty xs = length xs == 0
-
-abbrev pub all : List Bool → Bool
-all = list_all (λ b. b)
 
 -- ---- types
 
@@ -38,70 +34,64 @@ level_ty_built (Ty-F.Var x) = false
 abbrev pub is_ty_built : Ty → Bool
 is_ty_built a = level_ty_built (out-Ty a)
 
-abbrev pub are_fields_built : List Field → Bool
-are_fields_built fields = list_all (λ f. is_ty_built f.ty) fields
-
 -- ---- expressions
 
-abbrev pub level_built : Expr-F Bool Bool Bool Bool → Bool
-level_built (Expr-F.Var x) = true
-level_built Expr-F.Unit = true
-level_built (Expr-F.Bool b) = true
-level_built (Expr-F.Num i n) = is_public i
-level_built (Expr-F.Bin op i a b) = is_public i && a && b
-level_built (Expr-F.Shift left i a n) = is_public i && a && n
-level_built (Expr-F.Cmp op i a b) = is_public i && a && b
-level_built (Expr-F.Cast i j a) = is_public i && is_public j && a
-level_built (Expr-F.Not a) = a
-level_built (Expr-F.Make x args values) = is_empty args && all values
-level_built (Expr-F.Get x a) = a
-level_built (Expr-F.Tab x a) = a
-level_built (Expr-F.If c a b) = c && a && b
-level_built (Expr-F.Do items a) = all items && a
-level_built (Expr-F.While c a) = c && a
-level_built (Expr-F.For x a b c) = a && b && c
-level_built (Expr-F.Call x args values) = is_empty args && all values
+-- a form, apart from its parts and from the types that it writes
+abbrev pub is_form_built : {E I A C : Type 0} → Expr-F E I A C → Bool
+is_form_built (Expr-F.Var x) = true
+is_form_built Expr-F.Unit = true
+is_form_built (Expr-F.Bool b) = true
+is_form_built (Expr-F.Num i n) = true
+is_form_built (Expr-F.Bin op i a b) = true
+is_form_built (Expr-F.Shift left i a n) = true
+is_form_built (Expr-F.Cmp op i a b) = true
+is_form_built (Expr-F.Cast i j a) = true
+is_form_built (Expr-F.Not a) = true
+is_form_built (Expr-F.Get x a) = true
+is_form_built (Expr-F.Tab x a) = true
+is_form_built (Expr-F.If c a b) = true
+is_form_built (Expr-F.Do items a) = true
+is_form_built (Expr-F.While c a) = true
+is_form_built (Expr-F.For x a b c) = true
+-- no type arguments
+is_form_built (Expr-F.Make x args values) = is_empty args
+is_form_built (Expr-F.Call x args values) = is_empty args
 -- no secret values
-level_built (Expr-F.Hide i a) = false
+is_form_built (Expr-F.Hide i a) = false
 -- no buffers
-level_built (Expr-F.Read a i) = false
-level_built (Expr-F.Write a i v) = false
-level_built (Expr-F.Slice a i n) = false
-level_built (Expr-F.Frame slots a) = false
-level_built (Expr-F.Alloc b n a) = false
-level_built (Expr-F.Fill k a) = false
+is_form_built (Expr-F.Read a i) = false
+is_form_built (Expr-F.Write a i v) = false
+is_form_built (Expr-F.Slice a i n) = false
+is_form_built (Expr-F.Frame slots a) = false
+is_form_built (Expr-F.Alloc b n a) = false
+is_form_built (Expr-F.Fill k a) = false
 -- no sums
-level_built (Expr-F.Con x args values) = false
-level_built (Expr-F.Match a arms) = false
-level_built (Expr-F.Cases cases) = false
-level_built (Expr-F.TagIs x a) = false
-level_built (Expr-F.Part x j a) = false
-
-abbrev pub level_item_built : Item-F Bool Bool Bool Bool → Bool
-level_item_built (Item-F.Let x a value) = is_ty_built a && value
-level_item_built (Item-F.Run value) = value
-
--- branches and cases stand in forms that are not built
-abbrev pub level_arm_built : Arm-F Bool Bool Bool Bool → Bool
-level_arm_built arm = false
-
-abbrev pub level_case_built : Case-F Bool Bool Bool Bool → Bool
-level_case_built x = false
-
-abbrev pub is_expr_built : Expr → Bool
-is_expr_built = fold-Expr Bool Bool Bool Bool level_built level_item_built level_arm_built level_case_built
-
-abbrev pub is_item_built : Item → Bool
-is_item_built = fold-Item Bool Bool Bool Bool level_built level_item_built level_arm_built level_case_built
+is_form_built (Expr-F.Con x args values) = false
+is_form_built (Expr-F.Match a arms) = false
+is_form_built (Expr-F.Cases cases) = false
+is_form_built (Expr-F.TagIs x a) = false
+is_form_built (Expr-F.Part x j a) = false
 
 -- ---- definitions
 
+-- tests and patterns stand in forms that are not built
+abbrev pub is_piece_built : Piece → Bool
+is_piece_built (Value x) = is_form_built (out-Expr x)
+is_piece_built (Test x) = false
+is_piece_built (Pattern q) = false
+is_piece_built (Written a) = is_ty_built a
+is_piece_built (Bound x) = true
+
+abbrev pub is_sum : Def → Bool
+is_sum (d.Struct x vars fields) = false
+is_sum (d.Sum x vars cons) = true
+is_sum (d.Table x i nums) = false
+is_sum (d.Fun x vars params result body) = false
+is_sum (d.Entry x) = false
+
+-- no sum, no type variables, and each piece is built
 abbrev pub is_built : Def → Bool
-is_built (d.Struct x vars fields) = is_empty vars && are_fields_built fields
-is_built (d.Sum x vars cons) = false
-is_built (d.Table x i nums) = is_public i
-is_built (d.Fun x vars params result body) = is_empty vars && are_fields_built params && is_ty_built result && is_expr_built body
-is_built (d.Entry x) = true
+is_built def = not (is_sum def) && is_empty (listed_vars def) && list_all is_piece_built (pieces_of_def def)
 
 -- Each definition is built.
 abbrev pub AreBuilt : List Def → Type 0
