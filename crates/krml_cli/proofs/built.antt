@@ -1,3 +1,4 @@
--- What is built, under the names of C and among the definitions of a file.
+-- What is built, under the names of C, among the definitions of a file, and as the code walks over it.
 pub mod Bundled
+pub mod Pieces
 pub mod Unbuilt

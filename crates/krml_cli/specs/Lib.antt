@@ -3,3 +3,4 @@ pub mod Ends
 pub mod Refusal
 pub mod Steps
 pub mod Theorem
+pub mod Unbuilt

@@ -1,7 +1,8 @@
 //! Which definitions are of the part of the language that is built.
 
 ghost use Rattle.std.specs.Prelude.{◌≡◌, map};
-ghost use Rattle.krml_cstar.specs.Built.{all, is_public, is_ty_built, are_fields_built, is_expr_built, is_item_built, is_built, first_unbuilt};
+ghost use Rattle.krml_cstar.specs.Built.{is_public, is_ty_built, first_unbuilt};
+ghost use Rattle.krml_cli.specs.Unbuilt.{all, are_fields_built, is_expr_built, is_item_built, is_def_built};
 
 use krml_ast::{Def, Expr, Field, IntTy, Item, SourceFile, Ty};
 
@@ -91,7 +92,7 @@ fn are_fields_built(fields: &[Field]) -> bool
 }
 
 fn is_built(def: &Def) -> bool
-    ensures { result ≡ is_built def.now }
+    ensures { result ≡ is_def_built def.now }
 {
     match def {
         Def::Struct { vars, fields, .. } => vars.is_empty() && are_fields_built(fields.as_slice()),

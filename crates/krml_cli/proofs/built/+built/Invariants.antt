@@ -1,5 +1,5 @@
 use Rattle.std.proofs.Common.{◌≡◌, drop, map}
-use Rattle.krml_cstar.specs.Built.{all, is_expr_built, is_item_built}
+use Rattle.krml_cli.specs.Unbuilt.{all, is_expr_built, is_item_built}
 use Rattle.krml_cli.proofs.built.+built.Given as goal
 
 abbrev pub invariant-are_exprs_built-loop-expr : goal.invariant-are_exprs_built-loop-expr

@@ -1,0 +1,207 @@
+-- The walk over the tree of a definition says whether each of its pieces is built.
+use Rattle.std.proofs.Common.{◌≡◌, ℕ, Bool, true, false, ◌&&◌, List, [], ◌∷◌, ◌++◌, map, flat_map, refl, sym, ap, ◌∙◌}
+use Rattle.std.specs.List.{list_all}
+use Rattle.std.proofs.lemmas.List.Folds.{list_all-append, list_all-map}
+use Rattle.krml_syntax.specs.declared.tree.Ty.{Ty}
+use Rattle.krml_syntax.specs.declared.tree.Ty.TheVariants as t
+use Rattle.krml_syntax.specs.declared.tree.Ty.TheOpen.{Ty-F}
+use Rattle.krml_syntax.specs.declared.tree.Ty.TheFolds.{para-Ty, para-roll-Ty}
+use Rattle.krml_syntax.specs.declared.tree.Field.{Field}
+use Rattle.krml_syntax.specs.declared.tree.Arm.{Arm}
+use Rattle.krml_syntax.specs.declared.tree.Case.{Case}
+use Rattle.krml_syntax.specs.declared.tree.Item.{Item, roll-Item}
+use Rattle.krml_syntax.specs.declared.tree.Item.TheVariants as item
+use Rattle.krml_syntax.specs.declared.tree.Expr.{Expr, roll-Expr}
+use Rattle.krml_syntax.specs.declared.tree.Expr.TheOpen.{Expr-F, Item-F}
+use Rattle.krml_syntax.specs.declared.tree.Expr.TheViews.{out-roll-Expr}
+use Rattle.krml_syntax.specs.declared.tree.Expr.TheFolds.{fold-Arm, fold-Case, fold-roll-Expr, fold-roll-Item}
+use Rattle.krml_syntax.specs.declared.tree.Def.{Def}
+use Rattle.krml_syntax.specs.declared.tree.Def.TheVariants as d
+use Rattle.krml_syntax.specs.Shape.{map_layer, Part, parts_of, parts_of_item, OfParts}
+use Rattle.krml_syntax.proofs.Attached.{by_parts}
+use Rattle.krml_ast.specs.Pieces.{Piece, Bound, inside_level_ty, pieces_of, pieces_of_ty, field_types, written_types, bound_variables, own_pieces}
+use Rattle.krml_ast.proofs.Pieces.{Parts, inside, inside_item, inside_arm, inside_case, pieces_of_parts, inside_roll, let_inside, run_inside}
+use Rattle.krml_cstar.specs.Built.{is_public, is_empty, level_ty_built, is_ty_built, is_form_built, is_piece_built, is_built}
+use Rattle.krml_cstar.proofs.Part.{nothing_listed, built_form}
+use Rattle.krml_cli.specs.Unbuilt.{all, are_fields_built, level_built, level_item_built, level_arm_built, level_case_built, is_expr_built, is_item_built, is_def_built}
+
+abbrev are_built : List Piece → Bool
+are_built pieces = list_all is_piece_built pieces
+
+both : (xs ys : List Piece) → are_built (xs ++ ys) ≡ (are_built xs && are_built ys)
+both xs ys = list_all-append is_piece_built xs ys
+
+pair : (xs ys : List Piece) (a b : Bool) → a ≡ are_built xs → b ≡ are_built ys → (a && b) ≡ are_built (xs ++ ys)
+pair xs ys a b h k = ap (λ z. z && b) h ∙ ap (λ z. are_built xs && z) k ∙ sym (both xs ys)
+
+-- ---- truth values
+
+and_true : (a : Bool) → a ≡ (a && true)
+and_true true = refl
+and_true false = refl
+
+and_two : (a b : Bool) → (a && b) ≡ (a && (b && true))
+and_two a b = ap (λ z. a && z) (and_true b)
+
+and_three : (a b c : Bool) → (a && b && c) ≡ (a && (b && (c && true)))
+and_three true b c = and_two b c
+and_three false b c = refl
+
+-- ---- types
+
+abbrev in_ty : Ty → List Piece
+in_ty a = para-Ty (List Piece) inside_level_ty a
+
+built_inside : (a : Ty) → is_ty_built a ≡ true → in_ty a ≡ []
+built_inside = built_form (λ a. in_ty a ≡ [])
+    (ap in_ty (sym t.rolls-Bool) ∙ para-roll-Ty (List Piece) inside_level_ty Ty-F.Bool)
+    (ap in_ty (sym t.rolls-Unit) ∙ para-roll-Ty (List Piece) inside_level_ty Ty-F.Unit)
+    (λ i h. ap in_ty (sym (t.rolls-Int i)) ∙ para-roll-Ty (List Piece) inside_level_ty (Ty-F.Int i))
+    (λ x. ap in_ty (sym (t.rolls-Named x [])) ∙ para-roll-Ty (List Piece) inside_level_ty (Ty-F.Named x []))
+
+ty_same : (a : Ty) → is_ty_built a ≡ are_built (pieces_of_ty a)
+ty_same a = go (is_ty_built a) refl
+  where
+    go : (b : Bool) → is_ty_built a ≡ b → is_ty_built a ≡ (is_ty_built a && are_built (in_ty a))
+    go true h = rw (h, built_inside a h) refl
+    go false h = rw h refl
+
+types_same : (types : List Ty) → list_all is_ty_built types ≡ are_built (flat_map pieces_of_ty types)
+types_same [] = refl
+types_same (a ∷ types) = pair (pieces_of_ty a) (flat_map pieces_of_ty types) (is_ty_built a) (list_all is_ty_built types) (ty_same a) (types_same types)
+
+fields_same : (fields : List Field) → are_fields_built fields ≡ are_built (field_types fields)
+fields_same [] = refl
+fields_same (f ∷ fields) = pair (pieces_of_ty f.ty) (field_types fields) (is_ty_built f.ty) (are_fields_built fields) (ty_same f.ty) (fields_same fields)
+
+names_built : (xs : List (List ℕ)) → are_built (map Bound xs) ≡ true
+names_built [] = refl
+names_built (x ∷ xs) = names_built xs
+
+-- ---- forms
+
+abbrev is_arm_built : Arm → Bool
+is_arm_built = fold-Arm Bool Bool Bool Bool level_built level_item_built level_arm_built level_case_built
+
+abbrev is_case_built : Case → Bool
+is_case_built = fold-Case Bool Bool Bool Bool level_built level_item_built level_arm_built level_case_built
+
+-- no branch and no case is walked over
+abbrev is_part_built : Part Expr Item Arm Case → Bool
+is_part_built (Part.expr a) = is_expr_built a
+is_part_built (Part.item x) = is_item_built x
+is_part_built (Part.arm x) = are_built (inside_arm x)
+is_part_built (Part.case_ x) = are_built (inside_case x)
+
+abbrev are_parts_built : Parts → Bool
+are_parts_built parts = list_all is_part_built parts
+
+exprs_same : (es : List Expr) → all (map is_expr_built es) ≡ are_parts_built (map Part.expr es)
+exprs_same es = list_all-map (λ b. b) is_expr_built es ∙ sym (list_all-map is_part_built Part.expr es)
+
+items_same : (items : List Item) → all (map is_item_built items) ≡ are_parts_built (map Part.item items)
+items_same items = list_all-map (λ b. b) is_item_built items ∙ sym (list_all-map is_part_built Part.item items)
+
+-- a form without its parts, the types that it writes, and its parts
+abbrev is_layer_built : Expr-F Expr Item Arm Case → Bool
+is_layer_built o = is_form_built o && (list_all is_ty_built (written_types o) && are_parts_built (parts_of o))
+
+-- a form at type arguments
+listed_same : (args : List Ty) (es : List Expr) → (is_empty args && all (map is_expr_built es)) ≡ (is_empty args && (list_all is_ty_built args && are_parts_built (map Part.expr es)))
+listed_same args es = go (is_empty args) refl
+  where
+    go : (b : Bool) → is_empty args ≡ b → (is_empty args && all (map is_expr_built es)) ≡ (is_empty args && (list_all is_ty_built args && are_parts_built (map Part.expr es)))
+    go true h = rw (h, nothing_listed args h) (exprs_same es)
+    go false h = rw h refl
+
+-- two operands of an integer type
+operands : (i a b : Bool) → (i && a && b) ≡ ((i && true) && (a && (b && true)))
+operands true a b = and_two a b
+operands false a b = refl
+
+-- an operand of an integer type, which becomes one of another
+converted : (i j a : Bool) → (i && j && a) ≡ ((i && (j && true)) && (a && true))
+converted true true a = and_true a
+converted true false a = refl
+converted false j a = refl
+
+layer_same : (o : Expr-F Expr Item Arm Case) → level_built (map_layer is_expr_built is_item_built is_arm_built is_case_built o) ≡ is_layer_built o
+layer_same (Expr-F.Num i n) = rw (t.outs-Int i) (and_true (is_public i) ∙ and_true (is_public i && true))
+layer_same (Expr-F.Bin o i a b) = rw (t.outs-Int i) (operands (is_public i) (is_expr_built a) (is_expr_built b))
+layer_same (Expr-F.Shift left i a n) = rw (t.outs-Int i) (operands (is_public i) (is_expr_built a) (is_expr_built n))
+layer_same (Expr-F.Cmp o i a b) = rw (t.outs-Int i) (operands (is_public i) (is_expr_built a) (is_expr_built b))
+layer_same (Expr-F.Cast i j a) = rw (t.outs-Int i, t.outs-Int j) (converted (is_public i) (is_public j) (is_expr_built a))
+layer_same (Expr-F.Not a) = and_true (is_expr_built a)
+layer_same (Expr-F.Get y a) = and_true (is_expr_built a)
+layer_same (Expr-F.Tab x a) = and_true (is_expr_built a)
+layer_same (Expr-F.If c a b) = and_three (is_expr_built c) (is_expr_built a) (is_expr_built b)
+layer_same (Expr-F.While c a) = and_two (is_expr_built c) (is_expr_built a)
+layer_same (Expr-F.For x a b c) = and_three (is_expr_built a) (is_expr_built b) (is_expr_built c)
+layer_same (Expr-F.Do items a) = rw (list_all-append is_part_built (map Part.item items) (Part.expr a ∷ []), items_same items) (and_two (are_parts_built (map Part.item items)) (is_expr_built a))
+layer_same (Expr-F.Make x args es) = listed_same args es
+layer_same (Expr-F.Call x args es) = listed_same args es
+layer_same _ = refl
+
+-- ---- expressions
+
+abbrev P : Expr → Type 0
+P x = is_expr_built x ≡ are_built (pieces_of x)
+
+abbrev P' : Item → Type 0
+P' x = is_item_built x ≡ are_built (inside_item x)
+
+own_same : (o : Expr-F Expr Item Arm Case) → list_all is_ty_built (written_types o) ≡ are_built (own_pieces o)
+own_same o = rw (both (flat_map pieces_of_ty (written_types o)) (map Bound (bound_variables o)), names_built (bound_variables o))
+    (types_same (written_types o) ∙ and_true (are_built (flat_map pieces_of_ty (written_types o))))
+
+parts_same : (parts : Parts) → OfParts P P' (λ x. Unit {0}) (λ x. Unit {0}) parts → are_parts_built parts ≡ are_built (pieces_of_parts parts)
+parts_same [] h = refl
+parts_same (Part.expr a ∷ parts) h = pair (pieces_of a) (pieces_of_parts parts) (is_expr_built a) (are_parts_built parts) h.0 (parts_same parts h.1)
+parts_same (Part.item x ∷ parts) h = pair (inside_item x) (pieces_of_parts parts) (is_item_built x) (are_parts_built parts) h.0 (parts_same parts h.1)
+parts_same (Part.arm x ∷ parts) h = pair (inside_arm x) (pieces_of_parts parts) (are_built (inside_arm x)) (are_parts_built parts) refl (parts_same parts h.1)
+parts_same (Part.case_ x ∷ parts) h = pair (inside_case x) (pieces_of_parts parts) (are_built (inside_case x)) (are_parts_built parts) refl (parts_same parts h.1)
+
+expr_step : (o : Expr-F Expr Item Arm Case) → OfParts P P' (λ x. Unit {0}) (λ x. Unit {0}) (parts_of o) → P (roll-Expr o)
+expr_step o h =
+    fold-roll-Expr Bool Bool Bool Bool level_built level_item_built level_arm_built level_case_built o ∙ layer_same o
+    ∙ ap (λ z. is_form_built o && (z && are_parts_built (parts_of o))) (own_same o)
+    ∙ ap (λ z. is_form_built o && (are_built (own_pieces o) && z)) (parts_same (parts_of o) h)
+    ∙ ap (λ z. is_form_built o && z) (sym (both (own_pieces o) (pieces_of_parts (parts_of o))) ∙ ap are_built (sym (inside_roll o)))
+    ∙ ap (λ z. is_form_built z && are_built (inside (roll-Expr o))) (sym (out-roll-Expr o))
+
+item_step : (o : Item-F Expr Item Arm Case) → OfParts P P' (λ x. Unit {0}) (λ x. Unit {0}) (parts_of_item o) → P' (roll-Item o)
+item_step (Item-F.Let x b a) h =
+    fold-roll-Item Bool Bool Bool Bool level_built level_item_built level_arm_built level_case_built (Item-F.Let x b a)
+    ∙ and_true (is_ty_built b && is_expr_built a)
+    ∙ pair (pieces_of_ty b ++ pieces_of a) (Bound x ∷ []) (is_ty_built b && is_expr_built a) true (pair (pieces_of_ty b) (pieces_of a) (is_ty_built b) (is_expr_built a) (ty_same b) h.0) refl
+    ∙ ap are_built (sym (ap inside_item (item.rolls-Let x b a) ∙ let_inside x b a))
+item_step (Item-F.Run a) h =
+    fold-roll-Item Bool Bool Bool Bool level_built level_item_built level_arm_built level_case_built (Item-F.Run a) ∙ h.0
+    ∙ ap are_built (sym (ap inside_item (item.rolls-Run a) ∙ run_inside a))
+
+expr_same : (x : Expr) → is_expr_built x ≡ are_built (pieces_of x)
+expr_same = by_parts P P' (λ x. Unit {0}) (λ x. Unit {0}) expr_step item_step (λ o h. tt) (λ o h. tt)
+
+-- ---- definitions
+
+bound_built : (params : List Field) → are_built (map (λ p. Bound p.name) params) ≡ true
+bound_built [] = refl
+bound_built (p ∷ params) = bound_built params
+
+and_four : (a b c e : Bool) → (a && b && c && e) ≡ (a && ((b && true && c) && e))
+and_four true true c e = refl
+and_four true false c e = refl
+and_four false b c e = refl
+
+pub def_same : (def : Def) → is_def_built def ≡ is_built def
+def_same (d.Struct x vars fields) = ap (λ z. is_empty vars && z) (fields_same fields)
+def_same (d.Sum x vars cons) = refl
+def_same (d.Table x i nums) = sym (ap level_ty_built (t.outs-Int i)) ∙ ty_same (t.Int i)
+def_same (d.Fun x vars params result body) =
+    let names : List Piece = map (λ (p : Field). Bound p.name) params in
+    let types = pair (field_types params) names (are_fields_built params) true (fields_same params) (sym (bound_built params)) in
+    let head = pair (field_types params ++ names) (pieces_of_ty result) (are_fields_built params && true) (is_ty_built result) types (ty_same result) in
+    and_four (is_empty vars) (are_fields_built params) (is_ty_built result) (is_expr_built body)
+    ∙ ap (λ z. is_empty vars && z)
+    (pair (field_types params ++ names ++ pieces_of_ty result) (pieces_of body) (are_fields_built params && true && is_ty_built result) (is_expr_built body) head (expr_same body))
+def_same (d.Entry x) = refl
