@@ -14,7 +14,7 @@ use Rattle.krml_trace.proofs.Lists.{each_left, each_right}
 use Rattle.krml_ast.specs.Pieces.{Bound, pieces_of, pieces_of_ty, written_types, bound_variables}
 use Rattle.krml_ast.proofs.Pieces.{Parts, HoldsIn, inside_item, parts_hold, own_hold, last_holds, let_inside, run_inside}
 use Rattle.krml_cstar.specs.Built.{is_ty_built, is_form_built}
-use Rattle.krml_cstar.proofs.Part.{nothing_listed, PieceBuilt, AllBuilt, ExprBuilt}
+use Rattle.krml_cstar.proofs.Part.{nothing_listed, PieceBuilt, AllBuilt, ExprBuilt, types_built}
 
 -- ---- forms
 
@@ -35,13 +35,6 @@ module _ {E I A C : Type 0} where
   arguments_built (Expr-F.Call x args es) h = nothing_listed args h
   arguments_built _ h = refl
 
-abbrev pub TypesBuilt : List Ty → Type 0
-TypesBuilt types = AllByRecursion (λ a. is_ty_built a ≡ true) types
-
-types_built : (types : List Ty) → AllBuilt (flat_map pieces_of_ty types) → TypesBuilt types
-types_built [] h = tt
-types_built (a ∷ types) h = (h.0, types_built types (each_right PieceBuilt (pieces_of_ty a) (flat_map pieces_of_ty types) h))
-
 abbrev pub PartsBuilt : Parts → Type 0
 PartsBuilt parts = HoldsIn PieceBuilt parts
 
@@ -50,14 +43,14 @@ no_arguments x o is h = arguments_built o (sym (ap is_form_built is) ∙ h)
 
 pub record FormBuilt (o : Expr-F Expr Item Arm Case) : Type 0 where
   pub arguments : type_arguments o ≡ []
-  pub types : TypesBuilt (written_types o)
+  pub types : AllByRecursion (λ a. is_ty_built a ≡ true) (written_types o)
   pub parts : PartsBuilt (parts_of o)
 
 -- an expression of a form that is built
 pub form_built : (x : Expr) (o : Expr-F Expr Item Arm Case) → out-Expr x ≡ o → ExprBuilt x → FormBuilt o
 form_built x o is h = record {
   arguments = no_arguments x o is h.0;
-  types = types_built (written_types o) (each_left PieceBuilt (flat_map pieces_of_ty (written_types o)) (map Bound (bound_variables o)) (own_hold PieceBuilt x o is h.1));
+  types = types_built (λ (a : Ty). a) (written_types o) (each_left PieceBuilt (flat_map pieces_of_ty (written_types o)) (map Bound (bound_variables o)) (own_hold PieceBuilt x o is h.1));
   parts = parts_hold PieceBuilt x o is h.1;
 }
 

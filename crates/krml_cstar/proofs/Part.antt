@@ -1,5 +1,5 @@
 -- The part of the language that is built: its types, and what its definitions keep.
-use Rattle.std.proofs.Common.{◌≡◌, ℕ, suc, Bool, true, false, not, ◌&&◌, List, [], ◌∷◌, ◌++◌, map, length, Some, refl, sym, ap, ◌∙◌, subst, arith}
+use Rattle.std.proofs.Common.{◌≡◌, ℕ, suc, Bool, true, false, not, ◌&&◌, List, [], ◌∷◌, ◌++◌, map, flat_map, length, Some, refl, sym, ap, ◌∙◌, subst, arith}
 use Rattle.std.specs.List.{AllByRecursion, IsDistinct, list_all}
 use Rattle.std.specs.Str.{bytes_eq}
 use Rattle.std.proofs.lemmas.Bool.{eqb-true, and_parts}
@@ -132,9 +132,13 @@ pub built_pieces : (defs : List Def) → AreBuilt defs → AllBuilt (pieces_in d
 built_pieces [] h = tt
 built_pieces (def ∷ defs) h = each_append PieceBuilt (pieces_of_def def) (pieces_in defs) (def_built def h.0).pieces (built_pieces defs h.1)
 
+-- types that are written, as those of fields
+pub types_built : {A : Type 0} (f : A → Ty) (xs : List A) → AllBuilt (flat_map (λ x. pieces_of_ty (f x)) xs) → AllByRecursion (λ x. is_ty_built (f x) ≡ true) xs
+types_built f [] h = tt
+types_built f (x ∷ xs) h = (h.0, types_built f xs (each_right PieceBuilt (pieces_of_ty (f x)) (flat_map (λ y. pieces_of_ty (f y)) xs) h))
+
 pub fields_built : (fields : List Field) → AllBuilt (field_types fields) → FieldsBuilt fields
-fields_built [] h = tt
-fields_built (f ∷ fields) h = (h.0, fields_built fields (each_right PieceBuilt (pieces_of_ty f.ty) (field_types fields) h))
+fields_built fields h = types_built (λ (f : Field). f.ty) fields h
 
 pub record FunBuilt (vars : List (List ℕ)) (params : List Field) (r : Ty) (x : Expr) : Type 0 where
   pub none : vars ≡ []

@@ -83,11 +83,8 @@ is_piece_built (Written a) = is_ty_built a
 is_piece_built (Bound x) = true
 
 abbrev pub is_sum : Def → Bool
-is_sum (d.Struct x vars fields) = false
 is_sum (d.Sum x vars cons) = true
-is_sum (d.Table x i nums) = false
-is_sum (d.Fun x vars params result body) = false
-is_sum (d.Entry x) = false
+is_sum _ = false
 
 -- no sum, no type variables, and each piece is built
 abbrev pub is_built : Def → Bool

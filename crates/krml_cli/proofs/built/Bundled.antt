@@ -45,11 +45,8 @@ module _ (nm : Naming) (ok : TellsNamesApart nm) where
   pieces_same (x ∷ pieces) = rw (piece_same x, pieces_same pieces) refl
 
   head_same : (def : Def) → (not (is_sum (def_renamed nm def)) && is_empty (listed_vars (def_renamed nm def))) ≡ (not (is_sum def) && is_empty (listed_vars def))
-  head_same (d.Struct x vars fields) = refl
   head_same (d.Sum x vars cons) = refl
-  head_same (d.Table x i nums) = refl
-  head_same (d.Fun x vars params result body) = refl
-  head_same (d.Entry x) = refl
+  head_same _ = refl
 
   def_same : (def : Def) → is_built (def_renamed nm def) ≡ is_built def
   def_same def = rw (def_pieces nm ok def, pieces_same (pieces_of_def def), head_same def) refl

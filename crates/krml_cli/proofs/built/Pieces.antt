@@ -14,7 +14,7 @@ use Rattle.krml_syntax.specs.declared.tree.Item.TheVariants as item
 use Rattle.krml_syntax.specs.declared.tree.Expr.{Expr, roll-Expr}
 use Rattle.krml_syntax.specs.declared.tree.Expr.TheOpen.{Expr-F, Item-F}
 use Rattle.krml_syntax.specs.declared.tree.Expr.TheViews.{out-roll-Expr}
-use Rattle.krml_syntax.specs.declared.tree.Expr.TheFolds.{fold-Arm, fold-Case, fold-roll-Expr, fold-roll-Item}
+use Rattle.krml_syntax.specs.declared.tree.Expr.TheFolds.{fold-roll-Expr, fold-roll-Item}
 use Rattle.krml_syntax.specs.declared.tree.Def.{Def}
 use Rattle.krml_syntax.specs.declared.tree.Def.TheVariants as d
 use Rattle.krml_syntax.specs.Shape.{map_layer, Part, parts_of, parts_of_item, OfParts}
@@ -66,25 +66,19 @@ ty_same a = go (is_ty_built a) refl
     go true h = rw (h, built_inside a h) refl
     go false h = rw h refl
 
-types_same : (types : List Ty) → list_all is_ty_built types ≡ are_built (flat_map pieces_of_ty types)
-types_same [] = refl
-types_same (a ∷ types) = pair (pieces_of_ty a) (flat_map pieces_of_ty types) (is_ty_built a) (list_all is_ty_built types) (ty_same a) (types_same types)
+types_same : {A : Type 0} (f : A → Ty) (xs : List A) → list_all (λ x. is_ty_built (f x)) xs ≡ are_built (flat_map (λ x. pieces_of_ty (f x)) xs)
+types_same f [] = refl
+types_same f (x ∷ xs) = pair (pieces_of_ty (f x)) (flat_map (λ y. pieces_of_ty (f y)) xs) (is_ty_built (f x)) (list_all (λ y. is_ty_built (f y)) xs) (ty_same (f x)) (types_same f xs)
 
 fields_same : (fields : List Field) → are_fields_built fields ≡ are_built (field_types fields)
-fields_same [] = refl
-fields_same (f ∷ fields) = pair (pieces_of_ty f.ty) (field_types fields) (is_ty_built f.ty) (are_fields_built fields) (ty_same f.ty) (fields_same fields)
+fields_same fields = types_same (λ (f : Field). f.ty) fields
 
-names_built : (xs : List (List ℕ)) → are_built (map Bound xs) ≡ true
-names_built [] = refl
-names_built (x ∷ xs) = names_built xs
+-- variables that are bound
+bound_built : {A : Type 0} (f : A → List ℕ) (xs : List A) → are_built (map (λ x. Bound (f x)) xs) ≡ true
+bound_built f [] = refl
+bound_built f (x ∷ xs) = bound_built f xs
 
 -- ---- forms
-
-abbrev is_arm_built : Arm → Bool
-is_arm_built = fold-Arm Bool Bool Bool Bool level_built level_item_built level_arm_built level_case_built
-
-abbrev is_case_built : Case → Bool
-is_case_built = fold-Case Bool Bool Bool Bool level_built level_item_built level_arm_built level_case_built
 
 -- no branch and no case is walked over
 abbrev is_part_built : Part Expr Item Arm Case → Bool
@@ -125,22 +119,22 @@ converted true true a = and_true a
 converted true false a = refl
 converted false j a = refl
 
-layer_same : (o : Expr-F Expr Item Arm Case) → level_built (map_layer is_expr_built is_item_built is_arm_built is_case_built o) ≡ is_layer_built o
-layer_same (Expr-F.Num i n) = rw (t.outs-Int i) (and_true (is_public i) ∙ and_true (is_public i && true))
-layer_same (Expr-F.Bin o i a b) = rw (t.outs-Int i) (operands (is_public i) (is_expr_built a) (is_expr_built b))
-layer_same (Expr-F.Shift left i a n) = rw (t.outs-Int i) (operands (is_public i) (is_expr_built a) (is_expr_built n))
-layer_same (Expr-F.Cmp o i a b) = rw (t.outs-Int i) (operands (is_public i) (is_expr_built a) (is_expr_built b))
-layer_same (Expr-F.Cast i j a) = rw (t.outs-Int i, t.outs-Int j) (converted (is_public i) (is_public j) (is_expr_built a))
-layer_same (Expr-F.Not a) = and_true (is_expr_built a)
-layer_same (Expr-F.Get y a) = and_true (is_expr_built a)
-layer_same (Expr-F.Tab x a) = and_true (is_expr_built a)
-layer_same (Expr-F.If c a b) = and_three (is_expr_built c) (is_expr_built a) (is_expr_built b)
-layer_same (Expr-F.While c a) = and_two (is_expr_built c) (is_expr_built a)
-layer_same (Expr-F.For x a b c) = and_three (is_expr_built a) (is_expr_built b) (is_expr_built c)
-layer_same (Expr-F.Do items a) = rw (list_all-append is_part_built (map Part.item items) (Part.expr a ∷ []), items_same items) (and_two (are_parts_built (map Part.item items)) (is_expr_built a))
-layer_same (Expr-F.Make x args es) = listed_same args es
-layer_same (Expr-F.Call x args es) = listed_same args es
-layer_same _ = refl
+layer_same : (arm : Arm → Bool) (case_ : Case → Bool) (o : Expr-F Expr Item Arm Case) → level_built (map_layer is_expr_built is_item_built arm case_ o) ≡ is_layer_built o
+layer_same arm case_ (Expr-F.Num i n) = rw (t.outs-Int i) (and_true (is_public i) ∙ and_true (is_public i && true))
+layer_same arm case_ (Expr-F.Bin o i a b) = rw (t.outs-Int i) (operands (is_public i) (is_expr_built a) (is_expr_built b))
+layer_same arm case_ (Expr-F.Shift left i a n) = rw (t.outs-Int i) (operands (is_public i) (is_expr_built a) (is_expr_built n))
+layer_same arm case_ (Expr-F.Cmp o i a b) = rw (t.outs-Int i) (operands (is_public i) (is_expr_built a) (is_expr_built b))
+layer_same arm case_ (Expr-F.Cast i j a) = rw (t.outs-Int i, t.outs-Int j) (converted (is_public i) (is_public j) (is_expr_built a))
+layer_same arm case_ (Expr-F.Not a) = and_true (is_expr_built a)
+layer_same arm case_ (Expr-F.Get y a) = and_true (is_expr_built a)
+layer_same arm case_ (Expr-F.Tab x a) = and_true (is_expr_built a)
+layer_same arm case_ (Expr-F.If c a b) = and_three (is_expr_built c) (is_expr_built a) (is_expr_built b)
+layer_same arm case_ (Expr-F.While c a) = and_two (is_expr_built c) (is_expr_built a)
+layer_same arm case_ (Expr-F.For x a b c) = and_three (is_expr_built a) (is_expr_built b) (is_expr_built c)
+layer_same arm case_ (Expr-F.Do items a) = rw (list_all-append is_part_built (map Part.item items) (Part.expr a ∷ []), items_same items) (and_two (are_parts_built (map Part.item items)) (is_expr_built a))
+layer_same arm case_ (Expr-F.Make x args es) = listed_same args es
+layer_same arm case_ (Expr-F.Call x args es) = listed_same args es
+layer_same arm case_ _ = refl
 
 -- ---- expressions
 
@@ -151,8 +145,8 @@ abbrev P' : Item → Type 0
 P' x = is_item_built x ≡ are_built (inside_item x)
 
 own_same : (o : Expr-F Expr Item Arm Case) → list_all is_ty_built (written_types o) ≡ are_built (own_pieces o)
-own_same o = rw (both (flat_map pieces_of_ty (written_types o)) (map Bound (bound_variables o)), names_built (bound_variables o))
-    (types_same (written_types o) ∙ and_true (are_built (flat_map pieces_of_ty (written_types o))))
+own_same o = rw (both (flat_map pieces_of_ty (written_types o)) (map Bound (bound_variables o)), bound_built (λ x. x) (bound_variables o))
+    (types_same (λ (a : Ty). a) (written_types o) ∙ and_true (are_built (flat_map pieces_of_ty (written_types o))))
 
 parts_same : (parts : Parts) → OfParts P P' (λ x. Unit {0}) (λ x. Unit {0}) parts → are_parts_built parts ≡ are_built (pieces_of_parts parts)
 parts_same [] h = refl
@@ -163,7 +157,7 @@ parts_same (Part.case_ x ∷ parts) h = pair (inside_case x) (pieces_of_parts pa
 
 expr_step : (o : Expr-F Expr Item Arm Case) → OfParts P P' (λ x. Unit {0}) (λ x. Unit {0}) (parts_of o) → P (roll-Expr o)
 expr_step o h =
-    fold-roll-Expr Bool Bool Bool Bool level_built level_item_built level_arm_built level_case_built o ∙ layer_same o
+    fold-roll-Expr Bool Bool Bool Bool level_built level_item_built level_arm_built level_case_built o ∙ layer_same _ _ o
     ∙ ap (λ z. is_form_built o && (z && are_parts_built (parts_of o))) (own_same o)
     ∙ ap (λ z. is_form_built o && (are_built (own_pieces o) && z)) (parts_same (parts_of o) h)
     ∙ ap (λ z. is_form_built o && z) (sym (both (own_pieces o) (pieces_of_parts (parts_of o))) ∙ ap are_built (sym (inside_roll o)))
@@ -184,10 +178,6 @@ expr_same = by_parts P P' (λ x. Unit {0}) (λ x. Unit {0}) expr_step item_step 
 
 -- ---- definitions
 
-bound_built : (params : List Field) → are_built (map (λ p. Bound p.name) params) ≡ true
-bound_built [] = refl
-bound_built (p ∷ params) = bound_built params
-
 and_four : (a b c e : Bool) → (a && b && c && e) ≡ (a && ((b && true && c) && e))
 and_four true true c e = refl
 and_four true false c e = refl
@@ -199,7 +189,7 @@ def_same (d.Sum x vars cons) = refl
 def_same (d.Table x i nums) = sym (ap level_ty_built (t.outs-Int i)) ∙ ty_same (t.Int i)
 def_same (d.Fun x vars params result body) =
     let names : List Piece = map (λ (p : Field). Bound p.name) params in
-    let types = pair (field_types params) names (are_fields_built params) true (fields_same params) (sym (bound_built params)) in
+    let types = pair (field_types params) names (are_fields_built params) true (fields_same params) (sym (bound_built (λ (p : Field). p.name) params)) in
     let head = pair (field_types params ++ names) (pieces_of_ty result) (are_fields_built params && true) (is_ty_built result) types (ty_same result) in
     and_four (is_empty vars) (are_fields_built params) (is_ty_built result) (is_expr_built body)
     ∙ ap (λ z. is_empty vars && z)
