@@ -8,12 +8,12 @@ use Rattle.krml_syntax.specs.declared.tree.Case.{Case, roll-Case}
 use Rattle.krml_syntax.specs.declared.tree.Item.{Item}
 use Rattle.krml_syntax.specs.declared.tree.Item.TheVariants as item
 use Rattle.krml_syntax.specs.declared.tree.Expr.{Expr, out-Expr, roll-Expr, roll-out-Expr}
-use Rattle.krml_syntax.specs.declared.tree.Expr.TheOpen.{Expr-F, Item-F, Case-F}
+use Rattle.krml_syntax.specs.declared.tree.Expr.TheOpen.{Expr-F, Item-F}
 use Rattle.krml_syntax.specs.declared.tree.Expr.TheFolds.{para-Expr, para-Item, para-Arm, para-Case, para-roll-Expr, para-roll-Arm, para-roll-Case, para-roll-Item}
 use Rattle.krml_syntax.specs.Shape.{map_layer, Part, map_part, parts_of, OfPart, OfParts}
 use Rattle.krml_syntax.proofs.Shape.{parts_mapped}
 use Rattle.krml_trace.proofs.Lists.{each_append, each_left, each_right}
-use Rattle.krml_ast.specs.Pieces.{Piece, Value, Bound, With, test, in_part, pieces_of, pieces_of_ty, pieces_of_pat, own_pieces, inside_level, inside_level_item, inside_level_arm, inside_level_case}
+use Rattle.krml_ast.specs.Pieces.{Piece, Bound, test, in_part, pieces_of, pieces_of_ty, pieces_of_pat, own_pieces, inside_level, inside_level_item, inside_level_arm, inside_level_case}
 
 abbrev pub inside : Expr → List Piece
 inside = para-Expr (List Piece) (List Piece) (List Piece) (List Piece) inside_level inside_level_item inside_level_arm inside_level_case

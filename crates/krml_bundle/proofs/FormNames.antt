@@ -1,13 +1,13 @@
 -- The new names are of the shapes that C's names have.
-use Rattle.std.proofs.Common.{◌≡◌, ℕ, zero, suc, ◌<◌, ◌/◌, ◌%◌, ◌==◌, Bool, true, false, ◌&&◌, not, if◌then◌else◌, List, [], ◌∷◌, ◌++◌, map, flat_map, codes, Some, None, inl, inr, Contains, bytes_eq, refl, sym, ap, ◌∙◌, subst, arith}
-use Rattle.std.specs.List.{AllByRecursion, IsDistinct, list_all}
+use Rattle.std.proofs.Common.{◌≡◌, ℕ, zero, suc, ◌<◌, ◌/◌, ◌%◌, ◌==◌, Bool, true, false, ◌&&◌, not, if◌then◌else◌, List, [], ◌∷◌, ◌++◌, codes, Some, None, inl, inr, refl, sym, subst, arith}
+use Rattle.std.specs.List.{list_all}
 use Rattle.std.specs.Fmt.{decimal, digits, digits_onto, digit_glyph}
 use Rattle.std.proofs.lemmas.Bool.{and_parts}
 use Rattle.std.proofs.lemmas.Bool.Decides.{nat_tests}
 use Rattle.krml_trace.specs.Byte.{is_letter, is_digit, is_name_byte}
 use Rattle.krml_syntax.specs.Name.{is_name, is_reserved, IsName}
 use Rattle.krml_ast.specs.FileTypes.{IsSourceName, IsPlainName, IsEmitted}
-use Rattle.krml_bundle.specs.Emitted.{at_quote, is_number, with_prefix, emitted, emitted_fun, emitted_type, emitted_table, emitted_field}
+use Rattle.krml_bundle.specs.Emitted.{at_quote, is_number, with_prefix, emitted}
 
 -- ---- digits
 

@@ -1,13 +1,11 @@
 -- Results and final contents of runs that are done: numbers that fit.
-use Rattle.std.proofs.Common.{◌≡◌, ℕ, zero, suc, ◌+◌, ◌<◌, ◌^◌, Bool, true, false, if◌then◌else◌, List, [], ◌∷◌, ◌++◌, map, take, length, slice_get, Option, Some, None, unwrap_or, refl, sym, ap, ◌∙◌, subst, arith, append_assoc}
+use Rattle.std.proofs.Common.{◌≡◌, ℕ, suc, ◌+◌, ◌<◌, ◌^◌, Bool, true, false, if◌then◌else◌, List, [], ◌∷◌, ◌++◌, map, take, length, slice_get, Option, Some, None, unwrap_or, refl, sym, ap, ◌∙◌, subst, arith, append_assoc}
 use Rattle.std.specs.List.{AllByRecursion, list_all}
 use Rattle.std.proofs.lemmas.Bool.{and_parts}
 use Rattle.krml_trace.specs.declared.width.Width.{Width}
 use Rattle.krml_trace.specs.declared.why.Why.TheVariants.{Spent, Deep, Stuck, Undefined, Trapped}
 use Rattle.krml_trace.specs.declared.argument.Arg.{Arg}
 use Rattle.krml_trace.specs.declared.argument.Arg.TheVariants as arg
-use Rattle.krml_trace.specs.declared.arguments.Arguments.{Arguments}
-use Rattle.krml_trace.specs.declared.bound.Bound.{Bound}
 use Rattle.krml_trace.specs.Argument.{fits}
 use Rattle.krml_trace.specs.Width.{bits, same_width}
 use Rattle.krml_trace.specs.Run.{Goes, Ends, outcome_of}
@@ -20,25 +18,23 @@ use Rattle.krml_syntax.specs.declared.tree.Ty.TheVariants as t
 use Rattle.krml_syntax.specs.declared.tree.Ty.TheOpen.{Ty-F}
 use Rattle.krml_syntax.specs.declared.tree.Field.{Field}
 use Rattle.krml_syntax.specs.declared.tree.Def.{Def}
-use Rattle.krml_syntax.specs.declared.tree.SourceFile.{SourceFile}
 use Rattle.krml_syntax.specs.Types.{public, erased, int_ty}
 use Rattle.krml_syntax.proofs.Types.{at_unit, erased_unit, erased_int}
 use Rattle.krml_ast.specs.Typing.{at}
-use Rattle.krml_ast.specs.FileTypes.{EachRole}
-use Rattle.krml_ast.specs.WellTyped.{IsAnswer, AreWellTyped}
+use Rattle.krml_ast.specs.WellTyped.{IsAnswer}
 use Rattle.krml_meaning.specs.declared.value.Value.{Value, out-Value}
 use Rattle.krml_meaning.specs.declared.value.Value.TheOpen.{Value-F}
 use Rattle.krml_meaning.specs.declared.value.Value.TheVariants as v
 use Rattle.krml_meaning.specs.State.{Block, SourceRan}
-use Rattle.krml_meaning.specs.Meaning.{Passing, Passed, buffer, buffer_for, passing, passings, start, called_by_host, scalar_in, seen, ArgumentsFit}
+use Rattle.krml_meaning.specs.Meaning.{Passing, Passed, buffer, buffer_for, passing, passings, start, called_by_host, scalar_in, seen}
 use Rattle.krml_meaning.specs.Shape.{HasShape, BlockTyped, MemoryTyped, Usable, Extends}
-use Rattle.krml_meaning.specs.Sound.{Fine, CanRun}
-use Rattle.krml_meaning.specs.Endings.{IsNumberOf, IsResultOf, IsBufferOf, AreBuffersOf, LeavesNumbers, EndsInRange, TypedFilesEnd, CheckedFilesEnd}
+use Rattle.krml_meaning.specs.Sound.{Fine}
+use Rattle.krml_meaning.specs.Endings.{IsNumberOf, IsResultOf, IsBufferOf, AreBuffersOf, LeavesNumbers, TypedFilesEnd, CheckedFilesEnd}
 use Rattle.krml_meaning.proofs.Lists.{same_some, no_some, each_get, map_length}
 use Rattle.krml_trace.proofs.Blocks.{get_right}
 use Rattle.krml_meaning.proofs.Shapes.{ShapeIn, extends_then}
 use Rattle.krml_meaning.proofs.Files.{each_def}
-use Rattle.krml_meaning.proofs.Entries.{width_is, closed_bool, closed_int, one_more, one_passed, all_passed, EntryTyped, EntryFits, entry_fits, entry_there, shape_as, Started, started, some_there, started_fine}
+use Rattle.krml_meaning.proofs.Entries.{width_is, closed_bool, closed_int, one_more, one_passed, all_passed, EntryTyped, EntryFits, entry_fits, entry_there, shape_as, started, some_there, started_fine}
 use Rattle.krml_meaning.proofs.Spelled.{checked_can_run}
 
 -- ---- a result

@@ -1,5 +1,5 @@
 -- Types of files without type variables have zero values.
-use Rattle.std.proofs.Common.{◌≡◌, ℕ, zero, suc, ◌≤◌, false, List, [], ◌∷◌, ◌++◌, map, length, flat_map, Option, Some, option_map, option_and_then, ◌⊎◌, inl, inr, refl, sym, ap, ◌∙◌, subst, arith, append_assoc, pow_pos, Bool, true, if◌then◌else◌, None, slice_get}
+use Rattle.std.proofs.Common.{◌≡◌, ℕ, zero, suc, ◌≤◌, false, List, [], ◌∷◌, ◌++◌, map, length, flat_map, Option, Some, option_map, option_and_then, ◌⊎◌, inl, inr, refl, sym, ap, ◌∙◌, subst, arith, append_assoc, pow_pos, slice_get}
 use Rattle.std.specs.List.{AllByRecursion}
 use Rattle.krml_trace.specs.Width.{bits}
 use Rattle.krml_syntax.specs.declared.tree.IntTy.{IntTy}
@@ -22,7 +22,7 @@ use Rattle.krml_meaning.specs.declared.value.Value.{Value}
 use Rattle.krml_meaning.specs.declared.value.Value.TheVariants as v
 use Rattle.krml_meaning.specs.Meaning.{zero_value, all_some, zero_of, zero_in, zero_within}
 use Rattle.krml_meaning.specs.Shape.{HasShape, AllHaveShape}
-use Rattle.krml_meaning.proofs.Lists.{each_get, no_some, each_so, each_among, each_contains, same_some}
+use Rattle.krml_meaning.proofs.Lists.{each_get, no_some, each_so, each_among, each_contains}
 use Rattle.krml_meaning.specs.Sound.{CanRun}
 use Rattle.krml_meaning.proofs.Facts.{InSum}
 use Rattle.krml_syntax.proofs.Types.{erased_bool, erased_unit, erased_int, erased_named, at_none}

@@ -19,7 +19,7 @@ use Rattle.krml_passing.specs.Alike.{Scopes, Same, Leads, SameOf}
 use Rattle.krml_passing.specs.RunsAs.{run_image, RunsAs}
 use Rattle.krml_rename.specs.Pass.{Layer, Pass, passed, parts_passed, changing, def_with, file_with}
 use Rattle.krml_rename.specs.Renaming.{Renaming, slot_renamed, renamed, item_renamed}
-use Rattle.krml_passing.specs.Naming.{unchanged, ty_under, pat_under, images_of, renaming_of, under_names, def_under, file_under}
+use Rattle.krml_passing.specs.Naming.{unchanged, images_of, renaming_of, under_names, def_under, file_under}
 use Rattle.krml_passing.specs.Laws.{MeansTheSame}
 use Rattle.krml_passing.proofs.Forms.{SameTested}
 use Rattle.krml_passing.proofs.Passes.{layer_means, PartsPass, LayerPasses, all_pass}

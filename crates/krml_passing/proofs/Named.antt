@@ -21,7 +21,6 @@ use Rattle.krml_meaning.specs.Meaning as src
 use Rattle.krml_passing.specs.Images.{Images, vars_image, event_image, state_image}
 use Rattle.krml_passing.specs.Alike.{IsImage, Same}
 use Rattle.krml_passing.specs.RunsAs.{RunsAs, FitsAs}
-use Rattle.krml_rename.specs.Pass.{Layer}
 use Rattle.krml_rename.specs.Renaming.{slot_renamed, expr_renamed}
 use Rattle.krml_passing.specs.Naming.{Naming, TellsNamesApart, ty_under, images_of, renaming_of, env_image, under_names, param_under, file_under, function_under, file_renamed}
 use Rattle.krml_passing.proofs.Alike.{alike_some, alike_to}

@@ -1,19 +1,14 @@
 -- The new names are of the shapes that C's names have, and as new and as distinct as the old ones.
-use Rattle.std.proofs.Common.{◌≡◌, ℕ, zero, suc, ◌<◌, ◌/◌, ◌%◌, ◌==◌, Bool, true, false, ◌&&◌, not, if◌then◌else◌, List, [], ◌∷◌, ◌++◌, map, flat_map, codes, Some, None, inl, inr, Contains, bytes_eq, refl, sym, ap, ◌∙◌, subst, arith}
-use Rattle.std.specs.List.{AllByRecursion, IsDistinct, list_all}
-use Rattle.std.specs.Fmt.{decimal, digits, digits_onto, digit_glyph}
-use Rattle.std.proofs.lemmas.Bool.{and_parts}
-use Rattle.std.proofs.lemmas.Bool.Decides.{nat_tests}
+use Rattle.std.proofs.Common.{◌≡◌, ℕ, false, List, [], ◌∷◌, ◌++◌, map, flat_map, Contains, bytes_eq, refl, sym, ap, ◌∙◌, subst}
+use Rattle.std.specs.List.{AllByRecursion, IsDistinct}
 use Rattle.std.proofs.lemmas.List.{map-append, map-id}
 use Rattle.std.proofs.lemmas.Slice.Eq.{bytes_eq-Decides}
-use Rattle.krml_trace.specs.Byte.{is_letter, is_digit, is_name_byte}
-use Rattle.krml_syntax.specs.Name.{is_name, is_reserved, IsName}
 use Rattle.krml_syntax.specs.declared.tree.Field.{Field}
 use Rattle.krml_syntax.specs.declared.tree.Con.{Con}
 use Rattle.krml_syntax.specs.declared.tree.Def.{Def}
 use Rattle.krml_syntax.specs.declared.tree.Def.TheVariants as d
 use Rattle.krml_ast.specs.WellTyped.{AreNew, type_name, con_names, table_name, fun_name, entry_name, names_of}
-use Rattle.krml_ast.specs.FileTypes.{IsSourceName, IsPlainName, IsEmitted, field_names, listed_vars}
+use Rattle.krml_ast.specs.FileTypes.{field_names, listed_vars}
 use Rattle.krml_passing.proofs.RenamedTypes.{contained_before}
 use Rattle.krml_passing.specs.Naming.{param_under, con_under, def_renamed, Naming, TellsNamesApart}
 use Rattle.krml_passing.proofs.Lookups.{names_under}

@@ -10,7 +10,7 @@ use Rattle.krml_syntax.specs.declared.tree.Expr.TheFolds.{fold-roll-Expr, fold-r
 use Rattle.krml_syntax.specs.Shape.{map_layer, map_item, map_arm, map_case}
 use Rattle.krml_syntax.proofs.Shape.{layer_twice, item_twice, case_twice, of_parts}
 use Rattle.krml_rename.specs.Pass.{Pass, item_passed, arm_passed, case_passed}
-use Rattle.krml_rename.specs.Renaming.{itself, renamed, item_renamed, arm_renamed, renaming, expr_renamed}
+use Rattle.krml_rename.specs.Renaming.{itself, renamed, item_renamed, renaming, expr_renamed}
 
 -- ---- one layer
 

@@ -1,8 +1,8 @@
 -- The laws of a run that follows another: steps in a row, loops and calls side by side.
-use Rattle.std.proofs.Common.{◌≡◌, ◌∙◌, ◌⊎◌, inl, inr, ℕ, zero, suc, Bool, true, false, if◌then◌else◌, List, [], ◌∷◌, ◌++◌, Option, Some, None, refl, ap, sym}
+use Rattle.std.proofs.Common.{◌≡◌, ◌∙◌, inl, inr, ℕ, zero, suc, Bool, true, false, if◌then◌else◌, List, [], ◌∷◌, ◌++◌, Option, Some, None, refl, ap}
 use Rattle.krml_trace.specs.declared.why.Why.{Why}
-use Rattle.krml_trace.specs.declared.why.Why.TheVariants.{Spent, Deep, Trapped}
-use Rattle.krml_trace.specs.Run.{State, Ran, Goes, Ends, bind, leave, ends, with_some, check, spend, tick}
+use Rattle.krml_trace.specs.declared.why.Why.TheVariants.{Spent, Deep}
+use Rattle.krml_trace.specs.Run.{State, Ran, Goes, Ends, bind, ends, with_some, check, spend, tick}
 use Rattle.krml_trace.specs.After.{After}
 use Rattle.krml_trace.specs.Loop.{Turn, Again, Over, turned, turns, loop}
 use Rattle.krml_trace.specs.Levels.{within}

@@ -1,13 +1,13 @@
 -- Two runs side by side: a run of a target does what a run of a source does, unless the source is stuck.
 -- It is the following of runs (`Follows`) where want of ticks and of levels is kept, the second run does not trap, and its memory is a
 -- function of the first's. So the target's state is the image of the source's, and both have the same ticks.
-use Rattle.std.proofs.Common.{◌≡◌, ℕ, zero, suc, Bool, true, false, if◌then◌else◌, List, Option, Some, None, refl, sym}
+use Rattle.std.proofs.Common.{◌≡◌, ℕ, Bool, true, false, if◌then◌else◌, List, Option, Some, None, refl}
 use Rattle.krml_trace.specs.declared.outcome.Cause.{Cause}
 use Rattle.krml_trace.specs.declared.why.Why.{Why}
 use Rattle.krml_trace.specs.declared.why.Why.TheVariants as why
-use Rattle.krml_trace.specs.Run.{State, Ran, Goes, Ends, bind, with_some, check, spend, tick}
+use Rattle.krml_trace.specs.Run.{State, Ran, Goes, bind, with_some, check, tick}
 use Rattle.krml_trace.specs.After.{After}
-use Rattle.krml_trace.specs.Loop.{Turn, Again, Over, turned, turns, loop}
+use Rattle.krml_trace.specs.Loop.{Turn, Again, Over, loop}
 use Rattle.krml_trace.specs.Follows.{Shares, Never, beside, Follows}
 use Rattle.krml_trace.proofs.After.{Turned}
 use Rattle.krml_trace.proofs.Follows as follow
