@@ -50,17 +50,20 @@ pub record FormBuilt (o : Expr-F Expr Item Arm Case) : Type 0 where
 pub form_built : (x : Expr) (o : Expr-F Expr Item Arm Case) → out-Expr x ≡ o → ExprBuilt x → FormBuilt o
 form_built x o is h = record {
   arguments = no_arguments x o is h.0;
-  types = types_built (λ (a : Ty). a) (written_types o) (each_left PieceBuilt (flat_map pieces_of_ty (written_types o)) (map Bound (bound_variables o)) (own_hold PieceBuilt x o is h.1));
+  types = types_built (λ (a : Ty). a) (written_types o)
+      (each_left PieceBuilt (flat_map pieces_of_ty (written_types o)) (map Bound (bound_variables o)) (own_hold PieceBuilt x o is h.1));
   parts = parts_hold PieceBuilt x o is h.1;
 }
 
 -- no expression is built whose form is not
-pub unbuilt : {X : Type 0} (x : Expr) (o : Expr-F Expr Item Arm Case) → out-Expr x ≡ o → is_form_built o ≡ false → is_form_built (out-Expr x) ≡ true → X
+pub unbuilt : {X : Type 0} (x : Expr) (o : Expr-F Expr Item Arm Case) → out-Expr x ≡ o → is_form_built o ≡ false
+    → is_form_built (out-Expr x) ≡ true → X
 unbuilt x o is not h = let no : false ≡ true = sym not ∙ sym (ap is_form_built is) ∙ h in absurd (cc)
 
 -- ---- blocks
 
-pub block_built : (items : List Item) (a : Expr) → PartsBuilt (map Part.item items ++ Part.expr a ∷ []) → PartsBuilt (map Part.item items) × ExprBuilt a
+pub block_built : (items : List Item) (a : Expr)
+    → PartsBuilt (map Part.item items ++ Part.expr a ∷ []) → PartsBuilt (map Part.item items) × ExprBuilt a
 block_built items a h = last_holds PieceBuilt (map Part.item items) a h
 
 pub let_built : (x : List ℕ) (b : Ty) (a : Expr) → AllBuilt (inside_item (item.Let x b a)) → (is_ty_built b ≡ true) × ExprBuilt a

@@ -133,7 +133,8 @@ built_pieces [] h = tt
 built_pieces (def ∷ defs) h = each_append PieceBuilt (pieces_of_def def) (pieces_in defs) (def_built def h.0).pieces (built_pieces defs h.1)
 
 -- types that are written, as those of fields
-pub types_built : {A : Type 0} (f : A → Ty) (xs : List A) → AllBuilt (flat_map (λ x. pieces_of_ty (f x)) xs) → AllByRecursion (λ x. is_ty_built (f x) ≡ true) xs
+pub types_built : {A : Type 0} (f : A → Ty) (xs : List A) → AllBuilt (flat_map (λ x. pieces_of_ty (f x)) xs)
+    → AllByRecursion (λ x. is_ty_built (f x) ≡ true) xs
 types_built f [] h = tt
 types_built f (x ∷ xs) h = (h.0, types_built f xs (each_right PieceBuilt (pieces_of_ty (f x)) (flat_map (λ y. pieces_of_ty (f y)) xs) h))
 
@@ -146,13 +147,18 @@ pub record FunBuilt (vars : List (List ℕ)) (params : List Field) (r : Ty) (x :
   pub result : is_ty_built r ≡ true
   pub body : ExprBuilt x
 
-pub fun_built : (x : List ℕ) (vars : List (List ℕ)) (params : List Field) (result : Ty) (body : Expr) → DefBuilt (d.Fun x vars params result body) → FunBuilt vars params result body
+pub fun_built : (x : List ℕ) (vars : List (List ℕ)) (params : List Field) (result : Ty) (body : Expr) → DefBuilt (d.Fun x vars params result body)
+    → FunBuilt vars params result body
 fun_built x vars params result body b =
     let names : List Piece = map (λ (p : Field). Bound p.name) params in
-    let head = each_left PieceBuilt (field_types params ++ names ++ pieces_of_ty result) (pieces_of body) b.pieces in
-    let gives = each_right PieceBuilt (field_types params ++ names) (pieces_of_ty result) head in
-    let types = each_left PieceBuilt (field_types params) names (each_left PieceBuilt (field_types params ++ names) (pieces_of_ty result) head) in
-    record { none = b.none; types = fields_built params types; result = gives.0; body = each_right PieceBuilt (field_types params ++ names ++ pieces_of_ty result) (pieces_of body) b.pieces }
+    let front = field_types params ++ names in
+    let head = each_left PieceBuilt (front ++ pieces_of_ty result) (pieces_of body) b.pieces in
+    record {
+      none = b.none;
+      types = fields_built params (each_left PieceBuilt (field_types params) names (each_left PieceBuilt front (pieces_of_ty result) head));
+      result = (each_right PieceBuilt front (pieces_of_ty result) head).0;
+      body = each_right PieceBuilt (front ++ pieces_of_ty result) (pieces_of body) b.pieces;
+    }
 
 -- ---- the definitions of a file that is built
 

@@ -44,7 +44,8 @@ module _ (nm : Naming) (ok : TellsNamesApart nm) where
   pieces_same [] = refl
   pieces_same (x ∷ pieces) = rw (piece_same x, pieces_same pieces) refl
 
-  head_same : (def : Def) → (not (is_sum (def_renamed nm def)) && is_empty (listed_vars (def_renamed nm def))) ≡ (not (is_sum def) && is_empty (listed_vars def))
+  head_same : (def : Def)
+      → (not (is_sum (def_renamed nm def)) && is_empty (listed_vars (def_renamed nm def))) ≡ (not (is_sum def) && is_empty (listed_vars def))
   head_same (d.Sum x vars cons) = refl
   head_same _ = refl
 

@@ -66,9 +66,10 @@ ty_same a = go (is_ty_built a) refl
     go true h = rw (h, built_inside a h) refl
     go false h = rw h refl
 
-types_same : {A : Type 0} (f : A → Ty) (xs : List A) → list_all (λ x. is_ty_built (f x)) xs ≡ are_built (flat_map (λ x. pieces_of_ty (f x)) xs)
+types_same : {A : Type 0} (f : A → Ty) (xs : List A) → list_all (λ x. is_ty_built (f x)) xs
+    ≡ are_built (flat_map (λ x. pieces_of_ty (f x)) xs)
 types_same f [] = refl
-types_same f (x ∷ xs) = pair (pieces_of_ty (f x)) (flat_map (λ y. pieces_of_ty (f y)) xs) (is_ty_built (f x)) (list_all (λ y. is_ty_built (f y)) xs) (ty_same (f x)) (types_same f xs)
+types_same f (x ∷ xs) = pair (pieces_of_ty (f x)) (flat_map (λ y. pieces_of_ty (f y)) xs) _ _ (ty_same (f x)) (types_same f xs)
 
 fields_same : (fields : List Field) → are_fields_built fields ≡ are_built (field_types fields)
 fields_same fields = types_same (λ (f : Field). f.ty) fields
@@ -101,10 +102,12 @@ abbrev is_layer_built : Expr-F Expr Item Arm Case → Bool
 is_layer_built o = is_form_built o && (list_all is_ty_built (written_types o) && are_parts_built (parts_of o))
 
 -- a form at type arguments
-listed_same : (args : List Ty) (es : List Expr) → (is_empty args && all (map is_expr_built es)) ≡ (is_empty args && (list_all is_ty_built args && are_parts_built (map Part.expr es)))
+listed_same : (args : List Ty) (es : List Expr)
+    → (is_empty args && all (map is_expr_built es)) ≡ (is_empty args && (list_all is_ty_built args && are_parts_built (map Part.expr es)))
 listed_same args es = go (is_empty args) refl
   where
-    go : (b : Bool) → is_empty args ≡ b → (is_empty args && all (map is_expr_built es)) ≡ (is_empty args && (list_all is_ty_built args && are_parts_built (map Part.expr es)))
+    go : (b : Bool) → is_empty args ≡ b
+        → (is_empty args && all (map is_expr_built es)) ≡ (is_empty args && (list_all is_ty_built args && are_parts_built (map Part.expr es)))
     go true h = rw (h, nothing_listed args h) (exprs_same es)
     go false h = rw h refl
 
@@ -119,7 +122,8 @@ converted true true a = and_true a
 converted true false a = refl
 converted false j a = refl
 
-layer_same : (arm : Arm → Bool) (case_ : Case → Bool) (o : Expr-F Expr Item Arm Case) → level_built (map_layer is_expr_built is_item_built arm case_ o) ≡ is_layer_built o
+layer_same : (arm : Arm → Bool) (case_ : Case → Bool) (o : Expr-F Expr Item Arm Case)
+    → level_built (map_layer is_expr_built is_item_built arm case_ o) ≡ is_layer_built o
 layer_same arm case_ (Expr-F.Num i n) = rw (t.outs-Int i) (and_true (is_public i) ∙ and_true (is_public i && true))
 layer_same arm case_ (Expr-F.Bin o i a b) = rw (t.outs-Int i) (operands (is_public i) (is_expr_built a) (is_expr_built b))
 layer_same arm case_ (Expr-F.Shift left i a n) = rw (t.outs-Int i) (operands (is_public i) (is_expr_built a) (is_expr_built n))
@@ -131,7 +135,8 @@ layer_same arm case_ (Expr-F.Tab x a) = and_true (is_expr_built a)
 layer_same arm case_ (Expr-F.If c a b) = and_three (is_expr_built c) (is_expr_built a) (is_expr_built b)
 layer_same arm case_ (Expr-F.While c a) = and_two (is_expr_built c) (is_expr_built a)
 layer_same arm case_ (Expr-F.For x a b c) = and_three (is_expr_built a) (is_expr_built b) (is_expr_built c)
-layer_same arm case_ (Expr-F.Do items a) = rw (list_all-append is_part_built (map Part.item items) (Part.expr a ∷ []), items_same items) (and_two (are_parts_built (map Part.item items)) (is_expr_built a))
+layer_same arm case_ (Expr-F.Do items a) =
+    rw (list_all-append is_part_built (map Part.item items) (Part.expr a ∷ []), items_same items) (and_two (are_parts_built (map Part.item items)) (is_expr_built a))
 layer_same arm case_ (Expr-F.Make x args es) = listed_same args es
 layer_same arm case_ (Expr-F.Call x args es) = listed_same args es
 layer_same arm case_ _ = refl
@@ -150,10 +155,10 @@ own_same o = rw (both (flat_map pieces_of_ty (written_types o)) (map Bound (boun
 
 parts_same : (parts : Parts) → OfParts P P' (λ x. Unit {0}) (λ x. Unit {0}) parts → are_parts_built parts ≡ are_built (pieces_of_parts parts)
 parts_same [] h = refl
-parts_same (Part.expr a ∷ parts) h = pair (pieces_of a) (pieces_of_parts parts) (is_expr_built a) (are_parts_built parts) h.0 (parts_same parts h.1)
-parts_same (Part.item x ∷ parts) h = pair (inside_item x) (pieces_of_parts parts) (is_item_built x) (are_parts_built parts) h.0 (parts_same parts h.1)
-parts_same (Part.arm x ∷ parts) h = pair (inside_arm x) (pieces_of_parts parts) (are_built (inside_arm x)) (are_parts_built parts) refl (parts_same parts h.1)
-parts_same (Part.case_ x ∷ parts) h = pair (inside_case x) (pieces_of_parts parts) (are_built (inside_case x)) (are_parts_built parts) refl (parts_same parts h.1)
+parts_same (Part.expr a ∷ parts) h = pair (pieces_of a) (pieces_of_parts parts) _ _ h.0 (parts_same parts h.1)
+parts_same (Part.item x ∷ parts) h = pair (inside_item x) (pieces_of_parts parts) _ _ h.0 (parts_same parts h.1)
+parts_same (Part.arm x ∷ parts) h = pair (inside_arm x) (pieces_of_parts parts) _ _ refl (parts_same parts h.1)
+parts_same (Part.case_ x ∷ parts) h = pair (inside_case x) (pieces_of_parts parts) _ _ refl (parts_same parts h.1)
 
 expr_step : (o : Expr-F Expr Item Arm Case) → OfParts P P' (λ x. Unit {0}) (λ x. Unit {0}) (parts_of o) → P (roll-Expr o)
 expr_step o h =
@@ -167,7 +172,7 @@ item_step : (o : Item-F Expr Item Arm Case) → OfParts P P' (λ x. Unit {0}) (�
 item_step (Item-F.Let x b a) h =
     fold-roll-Item Bool Bool Bool Bool level_built level_item_built level_arm_built level_case_built (Item-F.Let x b a)
     ∙ and_true (is_ty_built b && is_expr_built a)
-    ∙ pair (pieces_of_ty b ++ pieces_of a) (Bound x ∷ []) (is_ty_built b && is_expr_built a) true (pair (pieces_of_ty b) (pieces_of a) (is_ty_built b) (is_expr_built a) (ty_same b) h.0) refl
+    ∙ pair (pieces_of_ty b ++ pieces_of a) (Bound x ∷ []) _ true (pair (pieces_of_ty b) (pieces_of a) _ _ (ty_same b) h.0) refl
     ∙ ap are_built (sym (ap inside_item (item.rolls-Let x b a) ∙ let_inside x b a))
 item_step (Item-F.Run a) h =
     fold-roll-Item Bool Bool Bool Bool level_built level_item_built level_arm_built level_case_built (Item-F.Run a) ∙ h.0
@@ -189,9 +194,8 @@ def_same (d.Sum x vars cons) = refl
 def_same (d.Table x i nums) = sym (ap level_ty_built (t.outs-Int i)) ∙ ty_same (t.Int i)
 def_same (d.Fun x vars params result body) =
     let names : List Piece = map (λ (p : Field). Bound p.name) params in
-    let types = pair (field_types params) names (are_fields_built params) true (fields_same params) (sym (bound_built (λ (p : Field). p.name) params)) in
-    let head = pair (field_types params ++ names) (pieces_of_ty result) (are_fields_built params && true) (is_ty_built result) types (ty_same result) in
+    let types = pair (field_types params) names _ true (fields_same params) (sym (bound_built (λ (p : Field). p.name) params)) in
+    let head = pair (field_types params ++ names) (pieces_of_ty result) _ _ types (ty_same result) in
     and_four (is_empty vars) (are_fields_built params) (is_ty_built result) (is_expr_built body)
-    ∙ ap (λ z. is_empty vars && z)
-    (pair (field_types params ++ names ++ pieces_of_ty result) (pieces_of body) (are_fields_built params && true && is_ty_built result) (is_expr_built body) head (expr_same body))
+    ∙ ap (λ z. is_empty vars && z) (pair (field_types params ++ names ++ pieces_of_ty result) (pieces_of body) _ _ head (expr_same body))
 def_same (d.Entry x) = refl

@@ -5,4 +5,6 @@ use Rattle.krml_cli.proofs.built.Pieces.{def_same}
 use Rattle.krml_cli.proofs.built.first_unbuilt.Goals as goal
 
 pub returns : goal.returns
-returns c = position_from_yields_List _ _ _ _ c.position.ensures.ran (YieldsList-from_slice c.args.file.now.defs (c.iter.ensures.rest ∙ c.as_slice.ensures)) (λ x b q k. search (rules, tests, def_same))
+returns c =
+    let items = YieldsList-from_slice c.args.file.now.defs (c.iter.ensures.rest ∙ c.as_slice.ensures) in
+    position_from_yields_List _ _ _ _ c.position.ensures.ran items (λ x b q k. search (rules, tests, def_same))
