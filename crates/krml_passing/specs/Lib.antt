@@ -1,4 +1,5 @@
 pub mod Alike
+pub mod Hoisted
 pub mod Images
 pub mod Laws
 pub mod Naming
