@@ -2,6 +2,7 @@ mod ExampleSwap
 pub mod Alike
 pub mod Changing
 pub mod Forms
+pub mod Hoisted
 pub mod HoistedLayers
 pub mod Lookups
 pub mod Named
