@@ -51,7 +51,7 @@ def_itself body (d.Table x i nums) = refl
 def_itself body (d.Fun x vars params result e) = ap (λ z. d.Fun x vars z result (body e)) (map-id params)
 def_itself body (d.Entry x) = refl
 
-file_itself : (body : Expr → Expr) (file : SourceFile) → file_under unchanged body file ≡ file_with body file
+pub file_itself : (body : Expr → Expr) (file : SourceFile) → file_under unchanged body file ≡ file_with body file
 file_itself body file = ap (λ z. record { defs = z }) (map_same (def_under unchanged body) (def_with body) file.defs (def_itself body))
 
 event_itself : (e : SourceEvent) → event_image (images_of unchanged unchanged_apart) e ≡ e
@@ -59,7 +59,7 @@ event_itself (event.Push slots) = ap event.Push (map-id slots)
 event_itself _ = refl
 
 -- the image of a run under these names is that run
-run_itself : (r : SourceRun) → run_image (event_image (images_of unchanged unchanged_apart)) r ≡ run_image (λ e. e) r
+pub run_itself : (r : SourceRun) → run_image (event_image (images_of unchanged unchanged_apart)) r ≡ run_image (λ e. e) r
 run_itself r = ap (λ es. record { outcome = r.outcome; events = es }) (map_same (event_image (images_of unchanged unchanged_apart))
     (λ e. e) r.events event_itself)
 

@@ -1,5 +1,6 @@
 mod ExampleSwap
 pub mod Alike
+pub mod Bodies
 pub mod Changing
 pub mod Forms
 pub mod Hoisted
