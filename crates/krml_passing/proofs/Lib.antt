@@ -5,6 +5,7 @@ pub mod Changing
 pub mod Forms
 pub mod Hoisted
 pub mod HoistedLayers
+pub mod HoistedRoles
 pub mod Lookups
 pub mod Named
 pub mod Naming
