@@ -4,6 +4,7 @@ pub mod Bodies
 pub mod Changing
 pub mod Forms
 pub mod Hoisted
+pub mod HoistedFiles
 pub mod HoistedLayers
 pub mod HoistedRoles
 pub mod Lookups

@@ -4,6 +4,7 @@ use Rattle.krml_syntax.specs.declared.tree.Expr.{Expr, roll-Expr}
 use Rattle.krml_syntax.specs.declared.tree.Def.{Def}
 use Rattle.krml_syntax.specs.declared.tree.SourceFile.{SourceFile}
 use Rattle.krml_meaning.specs.Meaning.{Calls, meaning}
+use Rattle.krml_passing.specs.Hoisted.{file_hoisted}
 use Rattle.krml_passing.specs.Images.{event_image}
 use Rattle.krml_passing.specs.Naming.{Naming, TellsNamesApart, images_of, file_renamed}
 use Rattle.krml_rename.specs.Pass.{Layer, passed, changing, file_with}
@@ -26,3 +27,11 @@ MeansTheSame change = (defs : List Def) (calls : Calls) (y : Layer) → meaning 
 abbrev pub RewrittenFilesRun : Type 0
 RewrittenFilesRun = (change : Layer → Expr) → MeansTheSame change → (file : SourceFile)
     → RunsAs (λ x. x) (λ e. e) file (file_with (passed (changing change)) file)
+
+-- A file whose frames list the slots of the `alloc` forms inside them runs as before.
+abbrev pub HoistedFilesRun : Type 0
+HoistedFilesRun = (file : SourceFile) → RunsAs (λ x. x) (λ e. e) file (file_hoisted file)
+
+-- Arguments that fit an entry fit it in the hoisted file.
+abbrev pub HoistedFilesFit : Type 0
+HoistedFilesFit = (file : SourceFile) → FitsAs (λ x. x) file (file_hoisted file)
