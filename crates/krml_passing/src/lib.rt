@@ -3,4 +3,4 @@
 
 mod laws;
 
-pub use laws::{renamed_files_run, rewritten_files_run};
+pub use laws::{hoisted_files_run, renamed_files_run, rewritten_files_run};

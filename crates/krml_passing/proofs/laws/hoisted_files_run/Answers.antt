@@ -1,0 +1,5 @@
+use Rattle.krml_passing.proofs.HoistedFiles.{runs_hoisted, fits_hoisted}
+use Rattle.krml_passing.proofs.laws.hoisted_files_run.Goals as goal
+
+pub returns : goal.returns
+returns c = record { runs = runs_hoisted; fits = fits_hoisted }
