@@ -1,5 +1,5 @@
 -- A hoisted expression has no slots of its own, and means what the expression means.
-use Rattle.std.proofs.Common.{◌≡◌, ℕ, List, sym, ap, ◌∙◌}
+use Rattle.std.proofs.Common.{◌≡◌, List, sym, ap, ◌∙◌}
 use mathlib.Core.Path.{fun_ext}
 use Rattle.krml_syntax.specs.declared.tree.Arm.{Arm, roll-Arm}
 use Rattle.krml_syntax.specs.declared.tree.Case.{Case, roll-Case}

@@ -9,7 +9,7 @@ use Rattle.krml_syntax.specs.Shape.{map_layer, map_item, map_arm, map_case}
 use Rattle.krml_meaning.specs.State.{Sem}
 use Rattle.krml_meaning.specs.Numbered.{Numbered, none, one, two, many, each_from}
 use Rattle.krml_meaning.specs.Meaning as src
-use Rattle.krml_passing.specs.Hoisted.{layer_numbered, item_numbered, arm_numbered, case_numbered}
+use Rattle.krml_passing.specs.Hoisted.{layer_numbered, item_numbered, case_numbered}
 
 -- the same slots, and the same from each number
 pub numbered_is : {A : Type 0} (a b : Numbered A) → a.slots ≡ b.slots → ((k : ℕ) → a.from k ≡ b.from k) → a ≡ b

@@ -1,5 +1,5 @@
 -- Frames that list the slots of the `alloc` forms inside them, in textual order; `fill` stands in place of `alloc`.
-use Rattle.std.specs.Prelude.{suc, List, ◌∷◌, ◌++◌, length}
+use Rattle.std.specs.Prelude.{suc, ◌∷◌, ◌++◌, length}
 use Rattle.krml_syntax.specs.declared.tree.Arm.{Arm, roll-Arm}
 use Rattle.krml_syntax.specs.declared.tree.Case.{Case, roll-Case}
 use Rattle.krml_syntax.specs.declared.tree.Item.{Item, roll-Item}
