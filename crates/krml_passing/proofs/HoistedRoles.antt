@@ -1,7 +1,7 @@
 -- What holds of the role of each form in a hoisted file: no `alloc` form is left.
 use Rattle.std.proofs.Common.{ℕ, List, [], ◌∷◌, ◌++◌, map, flat_map, sym, ap, ◌∙◌, subst}
 use Rattle.std.specs.List.{AllByRecursion}
-use Rattle.krml_trace.proofs.Lists.{each_append}
+use Rattle.krml_trace.proofs.Lists.{each_append, each_left, each_right}
 use Rattle.krml_syntax.specs.declared.tree.Ty.{Ty, roll-Ty, map-Ty}
 use Rattle.krml_syntax.specs.declared.tree.Ty.TheVariants as t
 use Rattle.krml_syntax.specs.declared.tree.Ty.TheOpen.{Ty-F}
@@ -25,9 +25,9 @@ use Rattle.krml_syntax.specs.declared.tree.SourceFile.{SourceFile}
 use Rattle.krml_syntax.specs.Shape.{map_layer, map_case, Part, role, Role, parts_of, parts_of_item, parts_of_arm, parts_of_case, OfParts}
 use Rattle.krml_syntax.proofs.Shape.{layer_twice, case_twice}
 use Rattle.krml_syntax.proofs.Attached.{Held, attached, case_attached, of_attached, of_case_attached, by_parts}
-use Rattle.krml_ast.specs.Pieces.{Piece, Value, Bound, pieces_of, pieces_of_ty, pieces_of_pat, pieces_of_def, pieces_in, inside_level_ty, inside_level_pat, field_types, written_types, bound_variables, own_pieces}
+use Rattle.krml_ast.specs.Pieces.{Piece, Value, Bound, pieces_of, pieces_of_ty, pieces_of_pat, pieces_of_def, pieces_in, inside_level_ty, inside_level_pat, field_types, written_types, bound_variables, own_pieces, Test}
 use Rattle.krml_ast.specs.FileTypes.{HasNoAlloc, RoleIn, EachRole}
-use Rattle.krml_ast.proofs.Pieces.{inside_item, inside_arm, inside_case, in_tests, inside_hold, HoldsIn, last_holds, let_inside, run_inside, arm_inside, case_inside}
+use Rattle.krml_ast.proofs.Pieces.{inside_item, inside_arm, inside_case, in_tests, inside, Parts, HoldsIn, parts_hold, inside_hold, last_holds, hold_last, let_inside, run_inside, arm_inside, case_inside}
 use Rattle.krml_meaning.specs.Numbered.{Numbered, one}
 use Rattle.krml_rename.specs.Pass.{def_with}
 use Rattle.krml_passing.specs.Hoisted.{layer_numbered, case_numbered, hoist_layer, hoist_item, hoist_arm, hoist_case, hoisted, item_hoisted, arm_hoisted, case_hoisted, body_hoisted, file_hoisted}
@@ -42,11 +42,6 @@ abbrev held : {X A : Type 0} (P : A → Type 0) (f : X → Numbered A) → Held 
 held P f q = record { slots = (f q.0).slots; from = λ k. ((f q.0).from k, q.1 k) }
 
 -- ---- one layer
-
-no_alloc : {E I A C : Type 0} (y : Expr-F (Numbered E) (Numbered I) (Numbered A) (Numbered C)) (k : ℕ)
-    → HasNoAlloc (role ((layer_numbered y).from k))
-no_alloc (Expr-F.Var x) k = tt
-no_alloc _ k = tt
 
 -- What holds of the parts, wherever their slots are numbered from, holds of the parts of the layer once they are.
 module _ {X X' X'' X''' E I A C : Type 0} (P : E → Type 0) (P' : I → Type 0) (P'' : A → Type 0) (P''' : C → Type 0)
@@ -134,3 +129,44 @@ module _ (R : Role → Type 0) where
   own_holds : {E I A C : Type 0} (o : Expr-F E I A C) → All (own_pieces o)
   own_holds o = both (flat_map pieces_of_ty (written_types o)) (map Bound (bound_variables o)) (types_hold (written_types o))
       (bounds_hold (bound_variables o))
+
+  -- ---- what holds in the parts, and in the whole
+
+  abbrev AllIn : Parts → Type 0
+  AllIn parts = HoldsIn (RoleIn R) parts
+
+  item_parts : (o : Item-F Expr Item Arm Case) → All (inside_item (roll-Item o)) → AllIn (parts_of_item o)
+  item_parts (Item-F.Let x b a) h = (each_right (RoleIn R) (pieces_of_ty b) (pieces_of a) (each_left (RoleIn R)
+      (pieces_of_ty b ++ pieces_of a) (Bound x ∷ []) (subst All (ap inside_item (item.rolls-Let x b a) ∙ let_inside x b a) h)), tt)
+  item_parts (Item-F.Run a) h = (subst All (ap inside_item (item.rolls-Run a) ∙ run_inside a) h, tt)
+
+  item_whole : (o : Item-F Expr Item Arm Case) → AllIn (parts_of_item o) → All (inside_item (roll-Item o))
+  item_whole (Item-F.Let x b a) h = subst All (sym (ap inside_item (item.rolls-Let x b a) ∙ let_inside x b a))
+      (both (pieces_of_ty b ++ pieces_of a) (Bound x ∷ []) (both (pieces_of_ty b) (pieces_of a) (ty_holds b) h.0) (tt, tt))
+  item_whole (Item-F.Run a) h = subst All (sym (ap inside_item (item.rolls-Run a) ∙ run_inside a)) h.0
+
+  arm_parts : (o : Arm-F Expr Item Arm Case) → All (inside_arm (roll-Arm o)) → AllIn (parts_of_arm o)
+  arm_parts o h = (each_right (RoleIn R) (pieces_of_pat o.pat) (pieces_of o.body) (subst All (arm_inside o.pat o.body) h), tt)
+
+  arm_whole : (o : Arm-F Expr Item Arm Case) → AllIn (parts_of_arm o) → All (inside_arm (roll-Arm o))
+  arm_whole o h = subst All (sym (arm_inside o.pat o.body)) (both (pieces_of_pat o.pat) (pieces_of o.body) (pat_holds o.pat) h.0)
+
+  tests_parts : (tests : List Expr) → All (in_tests tests) → AllIn (map Part.expr tests)
+  tests_parts [] h = tt
+  tests_parts (a ∷ tests) h = (each_left (RoleIn R) (pieces_of a) (in_tests tests) h, tests_parts tests (each_right (RoleIn R) (pieces_of a) (in_tests tests) h))
+
+  tests_whole : (tests : List Expr) → AllIn (map Part.expr tests) → All (in_tests tests)
+  tests_whole [] h = tt
+  tests_whole (a ∷ tests) h = both (Test a ∷ inside a) (in_tests tests) h.0 (tests_whole tests h.1)
+
+  case_parts : (o : Case-F Expr Item Arm Case) → All (inside_case (roll-Case o)) → AllIn (parts_of_case o)
+  case_parts o h =
+      let pieces = subst All (case_inside o.tests o.body) h in
+      hold_last (RoleIn R) (map Part.expr o.tests) o.body
+      (tests_parts o.tests (each_left (RoleIn R) (in_tests o.tests) (pieces_of o.body) pieces))
+      (each_right (RoleIn R) (in_tests o.tests) (pieces_of o.body) pieces)
+
+  case_whole : (o : Case-F Expr Item Arm Case) → AllIn (parts_of_case o) → All (inside_case (roll-Case o))
+  case_whole o h =
+      let held = last_holds (RoleIn R) (map Part.expr o.tests) o.body h in
+      subst All (sym (case_inside o.tests o.body)) (both (in_tests o.tests) (pieces_of o.body) (tests_whole o.tests held.0) held.1)
