@@ -44,8 +44,9 @@ module _ (body : Expr → Expr) where
       subst (Same im I (src.eval defs calls x))
       (ap (src.eval (to unchanged unchanged_apart body defs) calls') (expr_unchanged x)
       ∙ sym (same (to unchanged unchanged_apart body defs) calls' x))
-      ((renamed_same im ren I (scopes_under unchanged unchanged_apart) (λ y. refl) defs (to unchanged unchanged_apart body defs) calls calls'
-      (names_under unchanged unchanged_apart body defs calls calls' k) (pats_under unchanged unchanged_apart body defs calls calls' k) x).from 0)
+      ((renamed_same im ren I (scopes_under unchanged unchanged_apart) (λ y. refl) defs (to unchanged unchanged_apart body defs)
+      calls calls' (names_under unchanged unchanged_apart body defs calls calls' k)
+      (pats_under unchanged unchanged_apart body defs calls calls' k) x).from 0)
 
   pub runs_with : BodiesMeanTheSame → (file : SourceFile) → RunsAs (λ x. x) (λ e. e) file (file_with body file)
   runs_with same file entry args bound = ap (λ z. src.source_run z entry args bound) (sym (file_itself body file))

@@ -19,8 +19,8 @@ use Rattle.krml_passing.specs.Hoisted.{layer_numbered, item_numbered, arm_number
 use Rattle.krml_passing.proofs.HoistedLayers.{layer_mapped, case_mapped, layer_means, case_means}
 
 -- From a layer to what it is a layer of: that means what it meant once it is hoisted, where the layer does once its slots are numbered.
-rolled : {X L M : Type 0} (roll : L → X) (hoist : X → Numbered X) (mean : X → Numbered M) (layer_mean : L → Numbered M) (o : L) (n : Numbered L)
-    → hoist (roll o) ≡ one roll n → ((y : L) → mean (roll y) ≡ layer_mean y) → one layer_mean n ≡ one none (layer_mean o)
+rolled : {X L M : Type 0} (roll : L → X) (hoist : X → Numbered X) (mean : X → Numbered M) (layer_mean : L → Numbered M) (o : L)
+    (n : Numbered L) → hoist (roll o) ≡ one roll n → ((y : L) → mean (roll y) ≡ layer_mean y) → one layer_mean n ≡ one none (layer_mean o)
     → one mean (hoist (roll o)) ≡ one none (mean (roll o))
 rolled roll hoist mean layer_mean o n is_hoisted means h =
     ap (one mean) is_hoisted ∙ ap (λ g. one g n) (fun_ext means) ∙ h ∙ ap (one none) (sym (means o))

@@ -1,36 +1,25 @@
--- What holds of the role of each form in a hoisted file: no `alloc` form is left.
-use Rattle.std.proofs.Common.{ℕ, List, [], ◌∷◌, ◌++◌, map, flat_map, sym, ap, ◌∙◌, subst}
+-- What holds of the role of each form in a hoisted file: no `alloc` form is left, and a match only where there was one.
+use Rattle.std.proofs.Common.{ℕ, List, [], ◌∷◌, sym, ap, ◌∙◌, subst}
 use Rattle.std.specs.List.{AllByRecursion}
-use Rattle.krml_trace.proofs.Lists.{each_append, each_left, each_right}
-use Rattle.krml_syntax.specs.declared.tree.Ty.{Ty, roll-Ty, map-Ty}
-use Rattle.krml_syntax.specs.declared.tree.Ty.TheVariants as t
-use Rattle.krml_syntax.specs.declared.tree.Ty.TheOpen.{Ty-F}
-use Rattle.krml_syntax.specs.declared.tree.Ty.TheFolds.{ind-Ty, para-Ty, para-roll-Ty}
-use Rattle.krml_syntax.specs.declared.tree.Pat.{Pat, roll-Pat, map-Pat}
-use Rattle.krml_syntax.specs.declared.tree.Pat.TheOpen.{Pat-F}
-use Rattle.krml_syntax.specs.declared.tree.Pat.TheFolds.{ind-Pat, para-Pat, para-roll-Pat}
-use Rattle.krml_syntax.specs.declared.tree.Field.{Field}
-use Rattle.krml_syntax.specs.declared.tree.Con.{Con}
 use Rattle.krml_syntax.specs.declared.tree.Arm.{Arm, roll-Arm}
 use Rattle.krml_syntax.specs.declared.tree.Case.{Case, roll-Case}
 use Rattle.krml_syntax.specs.declared.tree.Item.{Item, roll-Item}
-use Rattle.krml_syntax.specs.declared.tree.Item.TheVariants as item
 use Rattle.krml_syntax.specs.declared.tree.Expr.{Expr, roll-Expr}
 use Rattle.krml_syntax.specs.declared.tree.Expr.TheOpen.{Expr-F, Item-F, Arm-F, Case-F}
 use Rattle.krml_syntax.specs.declared.tree.Expr.TheFolds.{fold-roll-Expr, fold-roll-Item, fold-roll-Arm, fold-roll-Case}
 use Rattle.krml_syntax.specs.declared.tree.Expr.TheViews.{out-roll-Expr}
-use Rattle.krml_syntax.specs.declared.tree.Def.{Def}
-use Rattle.krml_syntax.specs.declared.tree.Def.TheVariants as d
 use Rattle.krml_syntax.specs.declared.tree.SourceFile.{SourceFile}
-use Rattle.krml_syntax.specs.Shape.{map_layer, map_case, Part, role, Role, parts_of, parts_of_item, parts_of_arm, parts_of_case, OfParts}
+use Rattle.krml_syntax.specs.Shape.{map_layer, map_item, map_case, role, Role, parts_of, parts_of_item, parts_of_arm, parts_of_case, OfParts}
 use Rattle.krml_syntax.proofs.Shape.{layer_twice, case_twice}
-use Rattle.krml_syntax.proofs.Attached.{Held, attached, case_attached, of_attached, of_case_attached, by_parts}
-use Rattle.krml_ast.specs.Pieces.{Piece, Value, Bound, pieces_of, pieces_of_ty, pieces_of_pat, pieces_of_def, pieces_in, inside_level_ty, inside_level_pat, field_types, written_types, bound_variables, own_pieces, Test}
-use Rattle.krml_ast.specs.FileTypes.{HasNoAlloc, RoleIn, EachRole}
-use Rattle.krml_ast.proofs.Pieces.{inside_item, inside_arm, inside_case, in_tests, inside, Parts, HoldsIn, parts_hold, inside_hold, last_holds, hold_last, let_inside, run_inside, arm_inside, case_inside}
+use Rattle.krml_syntax.proofs.Attached.{Held, attached, case_attached, of_attached, of_case_attached, both_parts, by_parts}
+use Rattle.krml_ast.specs.Pieces.{Piece, Value, Test, Pattern, Written, Bound, pieces_of, pieces_in}
+use Rattle.krml_ast.specs.FileTypes.{HasNoAlloc, HasNoMatch, RoleIn, EachRole}
+use Rattle.krml_ast.proofs.Pieces.{inside_item, inside_arm, inside_case, Parts, HoldsIn, parts_hold, inside_hold}
 use Rattle.krml_meaning.specs.Numbered.{Numbered, one}
-use Rattle.krml_rename.specs.Pass.{def_with}
-use Rattle.krml_passing.specs.Hoisted.{layer_numbered, case_numbered, hoist_layer, hoist_item, hoist_arm, hoist_case, hoisted, item_hoisted, arm_hoisted, case_hoisted, body_hoisted, file_hoisted}
+use Rattle.krml_rename.specs.Pass.{Layer}
+use Rattle.krml_passing.specs.Hoisted.{layer_numbered, item_numbered, case_numbered, hoist_layer, hoist_item, hoist_arm, hoist_case, hoisted, item_hoisted, arm_hoisted, case_hoisted, body_hoisted, file_hoisted}
+use Rattle.krml_passing.specs.Laws.{HoistedFilesHaveNoAlloc}
+use Rattle.krml_passing.proofs.RoleParts.{own_holds, item_parts, item_whole, arm_parts, arm_whole, case_parts, case_whole, roles_with}
 use Rattle.krml_passing.proofs.HoistedLayers.{layer_mapped, case_mapped}
 
 -- what holds wherever slots are numbered from
@@ -51,122 +40,137 @@ module _ {X X' X'' X''' E I A C : Type 0} (P : E → Type 0) (P' : I → Type 0)
       → (k : ℕ) → OfParts P P' P'' P''' (parts_of ((layer_numbered (map_layer f f' f'' f''' o)).from k))
   parts_numbered o h k =
       let w = attached (λ x. FromEach P (f x)) (λ x. FromEach P' (f' x)) (λ x. FromEach P'' (f'' x)) (λ x. FromEach P''' (f''' x)) o h in
-      of_attached P P' P'' P''' ((layer_numbered (map_layer f f' f'' f''' o)).from k)
-      ((layer_numbered (map_layer (held P f) (held P' f') (held P'' f'') (held P''' f''') w.0)).from k, ap (λ n. n.from k)
-      (sym (layer_mapped (λ q. q.0) (λ q. q.0) (λ q. q.0) (λ q. q.0) (map_layer (held P f) (held P' f') (held P'' f'') (held P''' f''') w.0))
-      ∙ ap layer_numbered (layer_twice (held P f) (held P' f') (held P'' f'') (held P''' f''')
-      (one (λ q. q.0)) (one (λ q. q.0)) (one (λ q. q.0)) (one (λ q. q.0)) w.0
-      ∙ sym (layer_twice (λ q. q.0) (λ q. q.0) (λ q. q.0) (λ q. q.0) f f' f'' f''' w.0) ∙ ap (map_layer f f' f'' f''') w.1)))
+      of_attached P P' P'' P''' ((layer_numbered (map_layer f f' f'' f''' o)).from k) (
+        (layer_numbered (map_layer (held P f) (held P' f') (held P'' f'') (held P''' f''') w.0)).from k,
+        ap (λ n. n.from k)
+            (sym (layer_mapped (λ q. q.0) (λ q. q.0) (λ q. q.0) (λ q. q.0)
+            (map_layer (held P f) (held P' f') (held P'' f'') (held P''' f''') w.0))
+            ∙ ap layer_numbered (layer_twice (held P f) (held P' f') (held P'' f'') (held P''' f''')
+            (one (λ q. q.0)) (one (λ q. q.0)) (one (λ q. q.0)) (one (λ q. q.0)) w.0
+            ∙ sym (layer_twice (λ q. q.0) (λ q. q.0) (λ q. q.0) (λ q. q.0) f f' f'' f''' w.0) ∙ ap (map_layer f f' f'' f''') w.1)),
+      )
 
   pub case_parts_numbered : (o : Case-F X X' X'' X''')
-      → OfParts (λ x. FromEach P (f x)) (λ x. FromEach P' (f' x)) (λ x. FromEach P'' (f'' x)) (λ x. FromEach P''' (f''' x)) (parts_of_case o)
-      → (k : ℕ) → OfParts P P' P'' P''' (parts_of_case ((case_numbered (map_case f f' f'' f''' o)).from k))
+      → OfParts (λ x. FromEach P (f x)) (λ x. FromEach P' (f' x)) (λ x. FromEach P'' (f'' x)) (λ x. FromEach P''' (f''' x))
+      (parts_of_case o) → (k : ℕ) → OfParts P P' P'' P''' (parts_of_case ((case_numbered (map_case f f' f'' f''' o)).from k))
   case_parts_numbered o h k =
-      let w = case_attached (λ x. FromEach P (f x)) (λ x. FromEach P' (f' x)) (λ x. FromEach P'' (f'' x)) (λ x. FromEach P''' (f''' x)) o h in
-      of_case_attached P P' P'' P''' ((case_numbered (map_case f f' f'' f''' o)).from k)
-      ((case_numbered (map_case (held P f) (held P' f') (held P'' f'') (held P''' f''') w.0)).from k, ap (λ n. n.from k)
-      (sym (case_mapped (λ q. q.0) (λ q. q.0) (λ q. q.0) (λ q. q.0) (map_case (held P f) (held P' f') (held P'' f'') (held P''' f''') w.0))
-      ∙ ap case_numbered (case_twice (held P f) (held P' f') (held P'' f'') (held P''' f''')
-      (one (λ q. q.0)) (one (λ q. q.0)) (one (λ q. q.0)) (one (λ q. q.0)) w.0
-      ∙ sym (case_twice (λ q. q.0) (λ q. q.0) (λ q. q.0) (λ q. q.0) f f' f'' f''' w.0) ∙ ap (map_case f f' f'' f''') w.1)))
+      let w = case_attached (λ x. FromEach P (f x)) (λ x. FromEach P' (f' x)) (λ x. FromEach P'' (f'' x))
+      (λ x. FromEach P''' (f''' x)) o h in
+      of_case_attached P P' P'' P''' ((case_numbered (map_case f f' f'' f''' o)).from k) (
+        (case_numbered (map_case (held P f) (held P' f') (held P'' f'') (held P''' f''') w.0)).from k,
+        ap (λ n. n.from k)
+            (sym (case_mapped (λ q. q.0) (λ q. q.0) (λ q. q.0) (λ q. q.0)
+            (map_case (held P f) (held P' f') (held P'' f'') (held P''' f''') w.0))
+            ∙ ap case_numbered (case_twice (held P f) (held P' f') (held P'' f'') (held P''' f''')
+            (one (λ q. q.0)) (one (λ q. q.0)) (one (λ q. q.0)) (one (λ q. q.0)) w.0
+            ∙ sym (case_twice (λ q. q.0) (λ q. q.0) (λ q. q.0) (λ q. q.0) f f' f'' f''' w.0) ∙ ap (map_case f f' f'' f''') w.1)),
+      )
 
--- ---- types and patterns have no role
+-- ---- the whole
 
-module _ (R : Role → Type 0) where
-  abbrev All : List Piece → Type 0
-  All pieces = AllByRecursion (RoleIn R) pieces
+-- what a layer becomes
+abbrev pub layer_hoisted : Layer → Numbered Layer
+layer_hoisted o = layer_numbered (map_layer hoisted item_hoisted arm_hoisted case_hoisted o)
 
-  both : (xs ys : List Piece) → All xs → All ys → All (xs ++ ys)
-  both xs ys h k = each_append (RoleIn R) xs ys h k
+-- R' holds of the role of what a layer becomes, where R does of its role.
+abbrev pub RolesHoisted : (R R' : Role → Type 0) → Type 0
+RolesHoisted R R' = (o : Layer) (k : ℕ) → R (role o) → R' (role ((layer_hoisted o).from k))
 
-  abbrev in_ty : Ty → List Piece
-  in_ty a = para-Ty (List Piece) inside_level_ty a
+module _ (R R' : Role → Type 0) (roles : RolesHoisted R R') where
+  abbrev Kept : Expr → Type 0
+  Kept x = FromEach (λ z. AllByRecursion (RoleIn R') (pieces_of z)) (hoisted x)
 
-  abbrev in_pat : Pat → List Piece
-  in_pat q = para-Pat (List Piece) inside_level_pat q
+  abbrev ItemKept : Item → Type 0
+  ItemKept x = FromEach (λ z. AllByRecursion (RoleIn R') (inside_item z)) (item_hoisted x)
 
-  module _ (X : Type 0) (w : X → Ty) (h : (x : X) → All (in_ty (w x))) where
-    all_types : (xs : List X) → All (inside_level_ty (Ty-F.Named [] (map (λ a. (a, in_ty a)) (map w xs))))
-    all_types [] = tt
-    all_types (x ∷ xs) = (tt, both (in_ty (w x)) (inside_level_ty (Ty-F.Named [] (map (λ a. (a, in_ty a)) (map w xs)))) (h x) (all_types xs))
+  abbrev ArmKept : Arm → Type 0
+  ArmKept x = FromEach (λ z. AllByRecursion (RoleIn R') (inside_arm z)) (arm_hoisted x)
 
-    ty_level : (y : Ty-F X) → All (inside_level_ty (map-Ty Ty (Ty × List Piece) (λ a. (a, in_ty a)) (map-Ty X Ty w y)))
-    ty_level (Ty-F.Buf x) = (tt, h x)
-    ty_level (Ty-F.Named x xs) = all_types xs
-    ty_level _ = tt
+  abbrev CaseKept : Case → Type 0
+  CaseKept x = FromEach (λ z. AllByRecursion (RoleIn R') (inside_case z)) (case_hoisted x)
 
-    ty_step : (y : Ty-F X) → All (in_ty (roll-Ty (map-Ty X Ty w y)))
-    ty_step y = subst All (sym (para-roll-Ty (List Piece) inside_level_ty (map-Ty X Ty w y))) (ty_level y)
+  abbrev Keeps : Expr → Type 0
+  Keeps x = AllByRecursion (RoleIn R) (pieces_of x) → Kept x
 
-  ty_holds : (a : Ty) → All (pieces_of_ty a)
-  ty_holds a = (tt, ind-Ty (λ a. All (in_ty a)) (λ x y eq. subst (λ z. All (in_ty (roll-Ty z))) eq (ty_step _ (λ q. q.0) (λ q. q.1) y)) a)
+  abbrev ItemKeeps : Item → Type 0
+  ItemKeeps x = AllByRecursion (RoleIn R) (inside_item x) → ItemKept x
 
-  types_hold : (types : List Ty) → All (flat_map pieces_of_ty types)
-  types_hold [] = tt
-  types_hold (a ∷ types) = both (pieces_of_ty a) (flat_map pieces_of_ty types) (ty_holds a) (types_hold types)
+  abbrev ArmKeeps : Arm → Type 0
+  ArmKeeps x = AllByRecursion (RoleIn R) (inside_arm x) → ArmKept x
 
-  module _ (X : Type 0) (w : X → Pat) (h : (x : X) → All (in_pat (w x))) where
-    all_pats : (xs : List X) → All (inside_level_pat (Pat-F.Con [] (map (λ q. (q, in_pat q)) (map w xs))))
-    all_pats [] = tt
-    all_pats (x ∷ xs) = (tt, both (in_pat (w x)) (inside_level_pat (Pat-F.Con [] (map (λ q. (q, in_pat q)) (map w xs)))) (h x) (all_pats xs))
+  abbrev CaseKeeps : Case → Type 0
+  CaseKeeps x = AllByRecursion (RoleIn R) (inside_case x) → CaseKept x
 
-    pat_level : (y : Pat-F X) → All (inside_level_pat (map-Pat Pat (Pat × List Piece) (λ q. (q, in_pat q)) (map-Pat X Pat w y)))
-    pat_level (Pat-F.Bind x) = (tt, tt)
-    pat_level (Pat-F.Con x xs) = all_pats xs
-    pat_level (Pat-F.Make x xs) = all_pats xs
-    pat_level _ = tt
+  parts_kept : (parts : Parts) → OfParts Keeps ItemKeeps ArmKeeps CaseKeeps parts → HoldsIn (RoleIn R) parts
+      → OfParts Kept ItemKept ArmKept CaseKept parts
+  parts_kept = both_parts Keeps _ Kept ItemKeeps _ ItemKept ArmKeeps _ ArmKept CaseKeeps _ CaseKept
+      (λ x f h. f h) (λ x f h. f h) (λ x f h. f h) (λ x f h. f h)
 
-    pat_step : (y : Pat-F X) → All (in_pat (roll-Pat (map-Pat X Pat w y)))
-    pat_step y = subst All (sym (para-roll-Pat (List Piece) inside_level_pat (map-Pat X Pat w y))) (pat_level y)
+  layer_kept : (o : Layer) → OfParts Kept ItemKept ArmKept CaseKept (parts_of o) → (k : ℕ)
+      → HoldsIn (RoleIn R') (parts_of ((layer_hoisted o).from k))
+  layer_kept o h k = parts_numbered _ _ _ _ hoisted item_hoisted arm_hoisted case_hoisted o h k
 
-  pat_holds : (q : Pat) → All (pieces_of_pat q)
-  pat_holds q = (tt, ind-Pat (λ q. All (in_pat q)) (λ x y eq. subst (λ z. All (in_pat (roll-Pat z))) eq (pat_step _ (λ q. q.0) (λ q. q.1) y)) q)
+  expr_step : (o : Layer) → OfParts Keeps ItemKeeps ArmKeeps CaseKeeps (parts_of o) → Keeps (roll-Expr o)
+  expr_step o h all k =
+      let z : Layer = (layer_hoisted o).from k in
+      subst (λ (n : Numbered Expr). AllByRecursion (RoleIn R') (pieces_of (n.from k)))
+      (sym (fold-roll-Expr _ _ _ _ hoist_layer hoist_item hoist_arm hoist_case o)) (
+        subst (λ y. R' (role y)) (sym (out-roll-Expr z)) (roles o k (subst (λ y. R (role y)) (out-roll-Expr o) all.0)),
+        inside_hold (RoleIn R') (roll-Expr z) z (out-roll-Expr z) (own_holds R' z)
+            (layer_kept o (parts_kept (parts_of o) h (parts_hold (RoleIn R) (roll-Expr o) o (out-roll-Expr o) all.1)) k),
+      )
 
-  bounds_hold : (xs : List (List ℕ)) → All (map Bound xs)
-  bounds_hold [] = tt
-  bounds_hold (x ∷ xs) = (tt, bounds_hold xs)
+  item_kept : (o : Item-F Expr Item Arm Case) → OfParts Kept ItemKept ArmKept CaseKept (parts_of_item o) → (k : ℕ)
+      → HoldsIn (RoleIn R') (parts_of_item ((item_numbered (map_item hoisted item_hoisted arm_hoisted case_hoisted o)).from k))
+  item_kept (Item-F.Let x b a) h k = (h.0 k, tt)
+  item_kept (Item-F.Run a) h k = (h.0 k, tt)
 
-  own_holds : {E I A C : Type 0} (o : Expr-F E I A C) → All (own_pieces o)
-  own_holds o = both (flat_map pieces_of_ty (written_types o)) (map Bound (bound_variables o)) (types_hold (written_types o))
-      (bounds_hold (bound_variables o))
+  item_step : (o : Item-F Expr Item Arm Case) → OfParts Keeps ItemKeeps ArmKeeps CaseKeeps (parts_of_item o) → ItemKeeps (roll-Item o)
+  item_step o h all k = subst (λ (n : Numbered Item). AllByRecursion (RoleIn R') (inside_item (n.from k)))
+      (sym (fold-roll-Item _ _ _ _ hoist_layer hoist_item hoist_arm hoist_case o))
+      (item_whole R' ((item_numbered (map_item hoisted item_hoisted arm_hoisted case_hoisted o)).from k)
+      (item_kept o (parts_kept (parts_of_item o) h (item_parts R o all)) k))
 
-  -- ---- what holds in the parts, and in the whole
+  arm_step : (o : Arm-F Expr Item Arm Case) → OfParts Keeps ItemKeeps ArmKeeps CaseKeeps (parts_of_arm o) → ArmKeeps (roll-Arm o)
+  arm_step o h all k = subst (λ (n : Numbered Arm). AllByRecursion (RoleIn R') (inside_arm (n.from k)))
+      (sym (fold-roll-Arm _ _ _ _ hoist_layer hoist_item hoist_arm hoist_case o))
+      (arm_whole R' (record { pat = o.pat; body = (hoisted o.body).from k }) (h.0 (arm_parts R o all).0 k, tt))
 
-  abbrev AllIn : Parts → Type 0
-  AllIn parts = HoldsIn (RoleIn R) parts
+  case_step : (o : Case-F Expr Item Arm Case) → OfParts Keeps ItemKeeps ArmKeeps CaseKeeps (parts_of_case o) → CaseKeeps (roll-Case o)
+  case_step o h all k = subst (λ (n : Numbered Case). AllByRecursion (RoleIn R') (inside_case (n.from k)))
+      (sym (fold-roll-Case _ _ _ _ hoist_layer hoist_item hoist_arm hoist_case o))
+      (case_whole R' ((case_numbered (map_case hoisted item_hoisted arm_hoisted case_hoisted o)).from k)
+      (case_parts_numbered _ _ _ _ hoisted item_hoisted arm_hoisted case_hoisted o (parts_kept (parts_of_case o) h (case_parts R o all)) k))
 
-  item_parts : (o : Item-F Expr Item Arm Case) → All (inside_item (roll-Item o)) → AllIn (parts_of_item o)
-  item_parts (Item-F.Let x b a) h = (each_right (RoleIn R) (pieces_of_ty b) (pieces_of a) (each_left (RoleIn R)
-      (pieces_of_ty b ++ pieces_of a) (Bound x ∷ []) (subst All (ap inside_item (item.rolls-Let x b a) ∙ let_inside x b a) h)), tt)
-  item_parts (Item-F.Run a) h = (subst All (ap inside_item (item.rolls-Run a) ∙ run_inside a) h, tt)
+  expr_keeps : (x : Expr) → Keeps x
+  expr_keeps = by_parts Keeps ItemKeeps ArmKeeps CaseKeeps expr_step item_step arm_step case_step
 
-  item_whole : (o : Item-F Expr Item Arm Case) → AllIn (parts_of_item o) → All (inside_item (roll-Item o))
-  item_whole (Item-F.Let x b a) h = subst All (sym (ap inside_item (item.rolls-Let x b a) ∙ let_inside x b a))
-      (both (pieces_of_ty b ++ pieces_of a) (Bound x ∷ []) (both (pieces_of_ty b) (pieces_of a) (ty_holds b) h.0) (tt, tt))
-  item_whole (Item-F.Run a) h = subst All (sym (ap inside_item (item.rolls-Run a) ∙ run_inside a)) h.0
+  pub roles_hoisted : (file : SourceFile) → EachRole R file.defs → EachRole R' (file_hoisted file).defs
+  roles_hoisted file h = roles_with R R' body_hoisted (λ x h. expr_keeps x h 0) file.defs h
 
-  arm_parts : (o : Arm-F Expr Item Arm Case) → All (inside_arm (roll-Arm o)) → AllIn (parts_of_arm o)
-  arm_parts o h = (each_right (RoleIn R) (pieces_of_pat o.pat) (pieces_of o.body) (subst All (arm_inside o.pat o.body) h), tt)
+-- ---- what is left, and what is not
 
-  arm_whole : (o : Arm-F Expr Item Arm Case) → AllIn (parts_of_arm o) → All (inside_arm (roll-Arm o))
-  arm_whole o h = subst All (sym (arm_inside o.pat o.body)) (both (pieces_of_pat o.pat) (pieces_of o.body) (pat_holds o.pat) h.0)
+-- of any role
+each_any : (pieces : List Piece) → AllByRecursion (RoleIn (λ r. Unit {0})) pieces
+each_any [] = tt
+each_any (Value x ∷ pieces) = (tt, each_any pieces)
+each_any (Test x ∷ pieces) = (tt, each_any pieces)
+each_any (Pattern q ∷ pieces) = (tt, each_any pieces)
+each_any (Written a ∷ pieces) = (tt, each_any pieces)
+each_any (Bound x ∷ pieces) = (tt, each_any pieces)
 
-  tests_parts : (tests : List Expr) → All (in_tests tests) → AllIn (map Part.expr tests)
-  tests_parts [] h = tt
-  tests_parts (a ∷ tests) h = (each_left (RoleIn R) (pieces_of a) (in_tests tests) h, tests_parts tests (each_right (RoleIn R) (pieces_of a) (in_tests tests) h))
+-- no `alloc` form is left
+pub no_alloc_hoisted : HoistedFilesHaveNoAlloc
+no_alloc_hoisted file = roles_hoisted (λ r. Unit {0}) HasNoAlloc go file (each_any (pieces_in file.defs))
+  where
+    go : RolesHoisted (λ r. Unit {0}) HasNoAlloc
+    go (Expr-F.Var x) k h = tt
+    go _ k h = tt
 
-  tests_whole : (tests : List Expr) → AllIn (map Part.expr tests) → All (in_tests tests)
-  tests_whole [] h = tt
-  tests_whole (a ∷ tests) h = both (Test a ∷ inside a) (in_tests tests) h.0 (tests_whole tests h.1)
-
-  case_parts : (o : Case-F Expr Item Arm Case) → All (inside_case (roll-Case o)) → AllIn (parts_of_case o)
-  case_parts o h =
-      let pieces = subst All (case_inside o.tests o.body) h in
-      hold_last (RoleIn R) (map Part.expr o.tests) o.body
-      (tests_parts o.tests (each_left (RoleIn R) (in_tests o.tests) (pieces_of o.body) pieces))
-      (each_right (RoleIn R) (in_tests o.tests) (pieces_of o.body) pieces)
-
-  case_whole : (o : Case-F Expr Item Arm Case) → AllIn (parts_of_case o) → All (inside_case (roll-Case o))
-  case_whole o h =
-      let held = last_holds (RoleIn R) (map Part.expr o.tests) o.body h in
-      subst All (sym (case_inside o.tests o.body)) (both (in_tests o.tests) (pieces_of o.body) (tests_whole o.tests held.0) held.1)
+-- where there was no match, there is none
+pub no_match_hoisted : (file : SourceFile) → EachRole HasNoMatch file.defs → EachRole HasNoMatch (file_hoisted file).defs
+no_match_hoisted file = roles_hoisted HasNoMatch HasNoMatch go file
+  where
+    go : RolesHoisted HasNoMatch HasNoMatch
+    go (Expr-F.Match a arms) k h = h
+    go _ k h = tt

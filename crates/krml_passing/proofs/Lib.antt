@@ -21,6 +21,7 @@ pub mod RenamedNames
 pub mod RenamedPieces
 pub mod RenamedTypes
 pub mod RenamedTyping
+pub mod RoleParts
 pub mod RunsAs
 pub mod Starts
 pub mod Typed

@@ -3,6 +3,7 @@ use Rattle.std.specs.Prelude.{◌≡◌, List}
 use Rattle.krml_syntax.specs.declared.tree.Expr.{Expr, roll-Expr}
 use Rattle.krml_syntax.specs.declared.tree.Def.{Def}
 use Rattle.krml_syntax.specs.declared.tree.SourceFile.{SourceFile}
+use Rattle.krml_ast.specs.FileTypes.{HasNoAlloc, EachRole}
 use Rattle.krml_meaning.specs.Meaning.{Calls, meaning}
 use Rattle.krml_passing.specs.Hoisted.{file_hoisted}
 use Rattle.krml_passing.specs.Images.{event_image}
@@ -35,3 +36,7 @@ HoistedFilesRun = (file : SourceFile) → RunsAs (λ x. x) (λ e. e) file (file_
 -- Arguments that fit an entry fit it in the hoisted file.
 abbrev pub HoistedFilesFit : Type 0
 HoistedFilesFit = (file : SourceFile) → FitsAs (λ x. x) file (file_hoisted file)
+
+-- No `alloc` form stands in a hoisted file.
+abbrev pub HoistedFilesHaveNoAlloc : Type 0
+HoistedFilesHaveNoAlloc = (file : SourceFile) → EachRole HasNoAlloc (file_hoisted file).defs
