@@ -1,3 +1,4 @@
+mod ExampleHoist
 mod ExampleSwap
 pub mod Alike
 pub mod Bodies
@@ -5,6 +6,7 @@ pub mod Changing
 pub mod Forms
 pub mod Hoisted
 pub mod HoistedFiles
+pub mod HoistedForms
 pub mod HoistedLayers
 pub mod HoistedRoles
 pub mod Lookups
