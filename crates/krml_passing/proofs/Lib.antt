@@ -9,6 +9,7 @@ pub mod HoistedFiles
 pub mod HoistedForms
 pub mod HoistedLayers
 pub mod HoistedRoles
+pub mod HoistedTests
 pub mod Lookups
 pub mod Named
 pub mod Naming
