@@ -5,10 +5,11 @@ ghost use Rattle.std.specs.Str.{bytes_eq};
 
 use sqlite_items::Items;
 use std::alloc::{AllocError, Global};
+use std::fmt;
 use std::marker::Model;
 
 /// A name: a list of bytes, which contracts see as that list.
-#[derive(Drop)]
+#[derive(Debug, Drop)]
 pub struct Name {
     bytes: Items<u8>,
 }
@@ -19,6 +20,16 @@ impl Model for Name {
     ghost Value = { List ℕ };
 
     ghost view = { λ n. n.bytes };
+}
+
+/// Each byte as a character: the bytes of a name are those of a text's.
+impl fmt::Display for Name {
+    fn fmt<W: fmt::Write>(&self, f: &mut fmt::Formatter<W>) -> fmt::Result {
+        for byte in self.as_bytes() {
+            f.write_char(char::from(*byte))?;
+        }
+        Ok(())
+    }
 }
 
 impl Name {
