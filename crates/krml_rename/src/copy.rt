@@ -5,6 +5,7 @@ ghost use Rattle.krml_syntax.specs.declared.tree.Ty.TheVariants as t;
 ghost use Rattle.krml_syntax.specs.declared.tree.Pat.TheVariants as p;
 
 use crate::expression::renamed;
+use crate::made::Part;
 use crate::rename::{Applied, Rename};
 use krml_syntax::{Expr, Pat, Ty};
 use krml_trace::{Box, Name, NoMemory, Seq, both};
@@ -154,10 +155,17 @@ impl Rename for Kept {
     }
 }
 
-/// A copy of an expression: a tree equal to it.
+/// A copy of an expression, where it is kept in a box.
 #[tactic(auto, using(crate::proofs::Itself::expr_itself))]
+pub(crate) fn boxed_clone(alloc: Global, e: &Expr) -> Part
+    ensures { IfOk result (λ r. r ≡ e.now) }
+{
+    renamed(alloc, &Kept, e)
+}
+
+/// A copy of an expression: a tree equal to it.
 pub fn ast_clone(alloc: Global, e: &Expr) -> Result<Expr, NoMemory>
     ensures { IfOk result (λ r. r ≡ e.now) }
 {
-    Ok(renamed(alloc, &Kept, e)?.into_inner())
+    Ok(boxed_clone(alloc, e)?.into_inner())
 }

@@ -2,10 +2,12 @@
 #![tactic(auto)]
 
 mod copy;
+mod definition;
 mod expression;
-mod made;
+pub mod made;
 mod rename;
 
 pub use copy::{ast_clone, clone_each, clone_pat, clone_ty};
+pub use definition::{clone_def, clone_file, fun_with};
 pub use expression::renamed;
 pub use rename::{Applied, Rename};
