@@ -22,6 +22,7 @@ use Rattle.krml_syntax.specs.Name.{IsName}
 use Rattle.krml_ast.specs.declared.file.Emitted.{Emitted}
 use Rattle.krml_ast.specs.IsType.{IsFlat, IsType}
 use Rattle.krml_ast.specs.WellTyped.{AreWellTyped, type_name, con_names, table_name, fun_name, entry_name}
+use Rattle.krml_ast.specs.Leaves.{AreNarrow}
 use Rattle.krml_ast.specs.Pieces.{Piece, Value, Test, Written, Bound, pieces_in}
 
 -- the role of an expression
@@ -218,7 +219,7 @@ pub record IsMono (file : SourceFile) : Type 0 where
   pub cases : EachRole HasNoCases file.defs
   pub slots : EachRole HasNoSlots file.defs
 
--- A file without matches, in place of which cases stand.
+-- A file without matches, in place of which cases stand. No type of it has more leaves than it may have.
 pub record IsPlain (file : SourceFile) : Type 0 where
   pub regular : IsRegular file.defs
   pub named : AreNamed IsSourceName IsSourceName IsName IsSourceName IsName IsVariable file.defs
@@ -226,6 +227,7 @@ pub record IsPlain (file : SourceFile) : Type 0 where
   pub matches : EachRole HasNoMatch file.defs
   pub tests : AllByRecursion TestsIn (pieces_in file.defs)
   pub slots : EachRole HasNoSlots file.defs
+  pub narrow : AreNarrow file.defs
 
 -- what a hoisted file and a bundled one have in common
 pub record HasSlotsListed (defs : List Def) : Type 0 where
@@ -234,6 +236,7 @@ pub record HasSlotsListed (defs : List Def) : Type 0 where
   pub matches : EachRole HasNoMatch defs
   pub tests : AllByRecursion TestsIn (pieces_in defs)
   pub allocs : EachRole HasNoAlloc defs
+  pub narrow : AreNarrow defs
 
 -- A file whose frames list their slots.
 pub record IsHoisted (file : SourceFile) : Type 0 where

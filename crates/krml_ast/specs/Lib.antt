@@ -1,8 +1,10 @@
 pub mod Components
 pub mod FileTypes
 pub mod Found
+pub mod Instances
 pub mod IsType
 pub mod Labelled
+pub mod Leaves
 pub mod Names
 pub mod Pieces
 pub mod Places

@@ -8,6 +8,7 @@ mod fields;
 mod file;
 mod first_places;
 mod found;
+mod instance;
 mod kind;
 mod labels;
 mod names;
@@ -22,6 +23,7 @@ pub use event::SourceEvent;
 pub use fields::field_named;
 pub use file::{BundledFile, CheckedFile, Emitted, HoistedFile, MonoFile, PlainFile};
 pub use found::{ConDef, FunDef, StructDef, SumDef};
+pub use instance::{at_quote, source_name};
 pub use kind::NameKind;
 pub use krml_rename::{ast_clone, clone_ty};
 pub use krml_syntax::{

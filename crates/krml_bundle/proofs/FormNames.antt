@@ -7,7 +7,8 @@ use Rattle.std.proofs.lemmas.Bool.Decides.{nat_tests}
 use Rattle.krml_trace.specs.Byte.{is_letter, is_digit, is_name_byte}
 use Rattle.krml_syntax.specs.Name.{is_name, is_reserved, IsName}
 use Rattle.krml_ast.specs.FileTypes.{IsSourceName, IsPlainName, IsEmitted}
-use Rattle.krml_bundle.specs.Emitted.{at_quote, is_number, with_prefix, emitted}
+use Rattle.krml_ast.specs.Instances.{at_quote}
+use Rattle.krml_bundle.specs.Emitted.{is_number, with_prefix, emitted}
 
 -- ---- digits
 

@@ -5,7 +5,8 @@ use Rattle.std.proofs.lemmas.Bool.{and_parts}
 use Rattle.std.proofs.lemmas.Bool.Decides.{nat_tests}
 use Rattle.std.proofs.lemmas.Slice.Eq.{bytes_eq-Decides}
 use Rattle.krml_trace.specs.Byte.{is_digit}
-use Rattle.krml_bundle.specs.Emitted.{at_quote, is_number, with_prefix, emitted_as, emitted, emitted_fun, emitted_type, emitted_table, emitted_field}
+use Rattle.krml_ast.specs.Instances.{at_quote}
+use Rattle.krml_bundle.specs.Emitted.{is_number, with_prefix, emitted_as, emitted, emitted_fun, emitted_type, emitted_table, emitted_field}
 
 -- names that can be read back are as different as what they are made of
 as_different : (f back : List ℕ → List ℕ) → ((x : List ℕ) → back (f x) ≡ x) → (x y : List ℕ) → bytes_eq (f x) (f y) ≡ bytes_eq x y

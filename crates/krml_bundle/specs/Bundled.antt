@@ -1,11 +1,10 @@
 -- A file with the names that C has. All its definitions are kept, in their order.
-use Rattle.std.specs.Prelude.{◌≡◌, ℕ, if◌then◌else◌, List, [], ◌∷◌, map, Some, None}
+use Rattle.std.specs.Prelude.{◌≡◌, ℕ, if◌then◌else◌, List, [], ◌∷◌, Some, None}
 use Rattle.std.specs.List.{flat_map}
 use Rattle.krml_syntax.specs.declared.tree.Ty.{Ty}
 use Rattle.krml_syntax.specs.declared.tree.Pat.{Pat}
 use Rattle.krml_syntax.specs.declared.tree.Field.{Field}
 use Rattle.krml_syntax.specs.declared.tree.Con.{Con}
-use Rattle.krml_syntax.specs.declared.tree.Slot.{Slot}
 use Rattle.krml_syntax.specs.declared.tree.Expr.{Expr}
 use Rattle.krml_syntax.specs.declared.tree.Def.{Def}
 use Rattle.krml_syntax.specs.declared.tree.Def.TheVariants as d
@@ -13,11 +12,11 @@ use Rattle.krml_syntax.specs.declared.tree.SourceFile.{SourceFile}
 use Rattle.krml_rename.specs.Renaming.{Renaming}
 use Rattle.krml_ast.specs.declared.file.Emitted.{Emitted}
 use Rattle.krml_ast.specs.declared.event.SourceEvent.{SourceEvent}
-use Rattle.krml_ast.specs.declared.event.SourceEvent.TheVariants as event
 use Rattle.krml_ast.specs.declared.run.SourceRun.{SourceRun}
 use Rattle.krml_ast.specs.FileTypes.{emitted_name}
 use Rattle.krml_meaning.specs.Meaning.{has_entry}
-use Rattle.krml_passing.specs.Naming.{Naming, naming, renaming_of, field_under, param_under, con_under, slot_under, expr_under, def_renamed, file_renamed}
+use Rattle.krml_passing.specs.Images.{event_under}
+use Rattle.krml_passing.specs.Naming.{Naming, naming, renaming_of, field_under, param_under, con_under, expr_under, def_renamed, file_renamed}
 use Rattle.krml_passing.specs.RunsAs.{run_image, RunsAs, FitsAs}
 use Rattle.krml_bundle.specs.Emitted.{emitted_fun, emitted_type, emitted_table, emitted_field}
 
@@ -45,9 +44,6 @@ param_bundled = param_under c_names
 abbrev pub con_bundled : Con → Con
 con_bundled = con_under c_names
 
-abbrev pub slot_bundled : Slot → Slot
-slot_bundled = slot_under c_names
-
 abbrev pub expr_bundled : Expr → Expr
 expr_bundled = expr_under c_names
 
@@ -68,11 +64,13 @@ names_of file = flat_map names_of_def file.defs
 
 -- ---- runs
 
+-- the place of a table among the definitions: all of them are kept, in their order
+abbrev pub place_bundled : ℕ → ℕ
+place_bundled k = k
+
 -- an event under the new names
 abbrev pub event_bundled : SourceEvent → SourceEvent
-event_bundled (event.Arg j a n) = event.Arg j (ty_bundled a) n
-event_bundled (event.Push slots) = event.Push (map slot_bundled slots)
-event_bundled ev = ev
+event_bundled = event_under ty_bundled place_bundled
 
 abbrev pub run_bundled : SourceRun → SourceRun
 run_bundled = run_image event_bundled

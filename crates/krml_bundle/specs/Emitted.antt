@@ -1,12 +1,8 @@
 -- The names that C has for those of a file.
-use Rattle.std.specs.Prelude.{ℕ, ◌==◌, Bool, false, ◌&&◌, if◌then◌else◌, List, [], ◌∷◌, ◌++◌, codes, Option, Some, None, option_map}
+use Rattle.std.specs.Prelude.{ℕ, Bool, false, ◌&&◌, if◌then◌else◌, List, [], ◌∷◌, ◌++◌, codes, Option, Some, None}
 use Rattle.std.specs.List.{list_all}
 use Rattle.krml_trace.specs.Byte.{is_digit}
-
--- what stands before the first quote, and behind it
-abbrev pub at_quote : List ℕ → Option (List ℕ × List ℕ)
-at_quote [] = None
-at_quote (b ∷ bs) = if b == 39 then Some ([], bs) else option_map (λ p. (b ∷ p.0, p.1)) (at_quote bs)
+use Rattle.krml_ast.specs.Instances.{at_quote}
 
 -- one decimal digit or more
 abbrev pub is_number : List ℕ → Bool

@@ -1,24 +1,13 @@
 //! The names that C has for those of a file.
 
-ghost use Rattle.std.specs.Prelude.{◌≡◌, IfOk, option_map};
+ghost use Rattle.std.specs.Prelude.{◌≡◌, IfOk};
 ghost use Rattle.std.specs.List.{list_all};
 ghost use Rattle.krml_trace.specs.Byte.{is_digit};
-ghost use Rattle.krml_bundle.specs.Emitted.{at_quote, is_number, with_prefix, emitted, emitted_fun, emitted_type, emitted_table, emitted_field};
+ghost use Rattle.krml_bundle.specs.Emitted.{is_number, with_prefix, emitted, emitted_fun, emitted_type, emitted_table, emitted_field};
 
+use krml_ast::at_quote;
 use krml_trace::{Name, NoMemory};
 use std::alloc::Global;
-
-/// What stands before the first quote, and behind it.
-fn at_quote(x: &[u8]) -> Option<(&[u8], &[u8])>
-    ensures { option_map (λ p. (p.0.now, p.1.now)) result ≡ at_quote x.now }
-{
-    for (n, b) in x.iter().enumerate() {
-        if *b == b'\'' {
-            return Some((&x[..n], &x[n + 1..]));
-        }
-    }
-    None
-}
 
 fn are_digits(x: &[u8]) -> bool
     ensures { result ≡ list_all is_digit x.now }

@@ -21,6 +21,7 @@ use Rattle.krml_passing.proofs.RenamedTypes.{flat_kept, type_kept}
 use Rattle.krml_passing.proofs.RenamedNames.{each_map, given_under, listed_vars_under}
 use Rattle.krml_passing.proofs.RenamedPieces.{piece_under, file_pieces}
 use Rattle.krml_passing.proofs.RenamedDefs.{defs_kept}
+use Rattle.krml_passing.proofs.RenamedNarrow.{narrow_under}
 use Rattle.krml_passing.specs.Naming.{ty_under, field_under, con_under, slot_under, expr_under, def_renamed, Naming, TellsNamesApart, renaming_of}
 use Rattle.krml_passing.proofs.RenamedLayers.{form_under, out_under}
 use Rattle.krml_rename.proofs.Equations as eq
@@ -163,6 +164,7 @@ module _ (nm : Naming) (apart : TellsNamesApart nm) where
     matches = roles_kept HasNoMatch HasNoMatch defs no_match_kept l.matches;
     tests = pieces_kept TestsIn TestsIn defs tests_in_kept l.tests;
     allocs = roles_kept HasNoAlloc HasNoAlloc defs no_alloc_kept l.allocs;
+    narrow = narrow_under nm apart (expr_under nm) defs l.narrow;
   }
 
   -- ---- variables

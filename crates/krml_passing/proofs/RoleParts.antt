@@ -54,11 +54,11 @@ module _ (R : Role → Type 0) where
     ty_step : (y : Ty-F X) → All (in_ty (roll-Ty (map-Ty X Ty w y)))
     ty_step y = subst All (sym (para-roll-Ty (List Piece) inside_level_ty (map-Ty X Ty w y))) (ty_level y)
 
-  ty_holds : (a : Ty) → All (pieces_of_ty a)
+  pub ty_holds : (a : Ty) → All (pieces_of_ty a)
   ty_holds a =
       (tt, ind-Ty (λ a. All (in_ty a)) (λ x y eq. subst (λ z. All (in_ty (roll-Ty z))) eq (ty_step _ (λ q. q.0) (λ q. q.1) y)) a)
 
-  types_hold : (types : List Ty) → All (flat_map pieces_of_ty types)
+  pub types_hold : (types : List Ty) → All (flat_map pieces_of_ty types)
   types_hold [] = tt
   types_hold (a ∷ types) = both (pieces_of_ty a) (flat_map pieces_of_ty types) (ty_holds a) (types_hold types)
 
@@ -77,7 +77,7 @@ module _ (R : Role → Type 0) where
     pat_step : (y : Pat-F X) → All (in_pat (roll-Pat (map-Pat X Pat w y)))
     pat_step y = subst All (sym (para-roll-Pat (List Piece) inside_level_pat (map-Pat X Pat w y))) (pat_level y)
 
-  pat_holds : (q : Pat) → All (pieces_of_pat q)
+  pub pat_holds : (q : Pat) → All (pieces_of_pat q)
   pat_holds q =
       (tt, ind-Pat (λ q. All (in_pat q)) (λ x y eq. subst (λ z. All (in_pat (roll-Pat z))) eq (pat_step _ (λ q. q.0) (λ q. q.1) y)) q)
 
@@ -138,16 +138,16 @@ module _ (R : Role → Type 0) where
 
   -- ---- definitions
 
-  fields_hold : (fields : List Field) → All (field_types fields)
+  pub fields_hold : (fields : List Field) → All (field_types fields)
   fields_hold [] = tt
   fields_hold (f ∷ fields) = both (pieces_of_ty f.ty) (field_types fields) (ty_holds f.ty) (fields_hold fields)
 
-  cons_hold : (cons : List Con) → All (flat_map (λ (c : Con). flat_map pieces_of_ty c.args) cons)
+  pub cons_hold : (cons : List Con) → All (flat_map (λ (c : Con). flat_map pieces_of_ty c.args) cons)
   cons_hold [] = tt
   cons_hold (c ∷ cons) = both (flat_map pieces_of_ty c.args) (flat_map (λ (z : Con). flat_map pieces_of_ty z.args) cons)
       (types_hold c.args) (cons_hold cons)
 
-  params_hold : (params : List Field) → All (map (λ (p : Field). Bound p.name) params)
+  pub params_hold : (params : List Field) → All (map (λ (p : Field). Bound p.name) params)
   params_hold [] = tt
   params_hold (p ∷ params) = (tt, params_hold params)
 
