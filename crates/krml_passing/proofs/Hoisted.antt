@@ -26,7 +26,7 @@ rolled roll hoist mean layer_mean o n is_hoisted means h =
     ap (one mean) is_hoisted ∙ ap (λ g. one g n) (fun_ext means) ∙ h ∙ ap (one none) (sym (means o))
 
 -- functions that agree on the parts of a case make the same case of it
-same_case : {E I A C E' I' A' C' : Type 0} (f g : E → E') (f' g' : I → I') (f'' g'' : A → A') (f''' g''' : C → C') (o : Case-F E I A C)
+pub same_case : {E I A C E' I' A' C' : Type 0} (f g : E → E') (f' g' : I → I') (f'' g'' : A → A') (f''' g''' : C → C') (o : Case-F E I A C)
     → OfParts (λ x. f x ≡ g x) (λ x. f' x ≡ g' x) (λ x. f'' x ≡ g'' x) (λ x. f''' x ≡ g''' x) (parts_of_case o)
     → map_case f f' f'' f''' o ≡ map_case g g' g'' g''' o
 same_case f g f' g' f'' g'' f''' g''' o h =

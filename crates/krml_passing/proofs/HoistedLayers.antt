@@ -51,7 +51,7 @@ module _ {E I A C E' I' A' C' : Type 0} (f : E → E') (f' : I → I') (f'' : A 
 
 -- ---- parts without slots
 
-many_none : {A : Type 0} (xs : List A) → many (λ xs. xs) (map none xs) ≡ none xs
+pub many_none : {A : Type 0} (xs : List A) → many (λ xs. xs) (map none xs) ≡ none xs
 many_none xs = numbered_is _ _ (no_slots xs) (each_none xs)
   where
     no_slots : {A : Type 0} (xs : List A) → flat_map (λ n. n.slots) (map none xs) ≡ []

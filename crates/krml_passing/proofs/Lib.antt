@@ -5,15 +5,21 @@ pub mod Bodies
 pub mod Changing
 pub mod Forms
 pub mod Hoisted
+pub mod HoistedFile
 pub mod HoistedFiles
 pub mod HoistedForms
 pub mod HoistedLayers
+pub mod HoistedNarrow
+pub mod HoistedNothing
+pub mod HoistedPieces
 pub mod HoistedRoles
 pub mod HoistedTests
+pub mod HoistedTyping
 pub mod Lookups
 pub mod Named
 pub mod Naming
 pub mod Numbered
+pub mod OtherBodies
 pub mod Passes
 pub mod Patterns
 pub mod Renamed
@@ -21,6 +27,7 @@ pub mod RenamedDefs
 pub mod RenamedForms
 pub mod RenamedLayers
 pub mod RenamedNames
+pub mod RenamedNarrow
 pub mod RenamedPieces
 pub mod RenamedTypes
 pub mod RenamedTyping
@@ -28,4 +35,5 @@ pub mod RoleParts
 pub mod RunsAs
 pub mod Starts
 pub mod Typed
+pub mod TypedParts
 pub mod Values

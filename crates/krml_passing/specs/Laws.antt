@@ -3,7 +3,7 @@ use Rattle.std.specs.Prelude.{◌≡◌, List}
 use Rattle.krml_syntax.specs.declared.tree.Expr.{Expr, roll-Expr}
 use Rattle.krml_syntax.specs.declared.tree.Def.{Def}
 use Rattle.krml_syntax.specs.declared.tree.SourceFile.{SourceFile}
-use Rattle.krml_ast.specs.FileTypes.{HasNoAlloc, EachRole}
+use Rattle.krml_ast.specs.FileTypes.{HasNoAlloc, EachRole, IsPlain, IsHoisted}
 use Rattle.krml_meaning.specs.Meaning.{Calls, meaning}
 use Rattle.krml_passing.specs.Hoisted.{file_hoisted}
 use Rattle.krml_passing.specs.Images.{event_image}
@@ -40,3 +40,7 @@ HoistedFilesFit = (file : SourceFile) → FitsAs (λ x. x) file (file_hoisted fi
 -- No `alloc` form stands in a hoisted file.
 abbrev pub HoistedFilesHaveNoAlloc : Type 0
 HoistedFilesHaveNoAlloc = (file : SourceFile) → EachRole HasNoAlloc (file_hoisted file).defs
+
+-- A plain file becomes a hoisted one.
+abbrev pub HoistedFilesAreHoisted : Type 0
+HoistedFilesAreHoisted = (file : SourceFile) → IsPlain file → IsHoisted (file_hoisted file)
