@@ -1,0 +1,3 @@
+pub mod Large
+pub mod Refusing
+pub mod Walk
