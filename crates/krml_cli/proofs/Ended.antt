@@ -5,7 +5,8 @@ use Rattle.std.specs.Io.KnownBytes.{Appends}
 use Rattle.krml_trace.specs.declared.outside.SinkFault.TheVariants as fault
 use Rattle.krml_syntax.specs.declared.tree.SourceFile.{SourceFile}
 use Rattle.krml_syntax.specs.File.{SpellsFile}
-use Rattle.krml_ast.specs.FileTypes.{IsTypedFile}
+use Rattle.krml_ast.specs.declared.file.Emitted.{Emitted}
+use Rattle.krml_ast.specs.FileTypes.{IsTypedFile, IsBundled}
 use Rattle.krml_ast.specs.WellTyped.{AreWellTyped}
 use Rattle.krml_meaning.specs.Sound.{CheckedFilesRun}
 use Rattle.krml_reader.specs.declared.refusal.ReadRefusal.{ReadRefusal}
@@ -14,27 +15,32 @@ use Rattle.krml_reader.specs.Read.{IsRefused}
 use Rattle.krml_types.specs.declared.refusal.TypeRefusal.{TypeRefusal}
 use Rattle.krml_types.specs.declared.refusal.TypeRefusal.TheVariants as types
 use Rattle.krml_types.specs.Check.{IsRightAnswer}
+use Rattle.krml_match.specs.declared.refusal.MatchRefusal.TheVariants as m
+use Rattle.krml_hoist.specs.declared.refusal.HoistRefusal.TheVariants as o
 use Rattle.krml_cstar.specs.Built.{AreBuilt, first_unbuilt, IsFirstUnbuilt}
+use Rattle.krml_command.specs.declared.request.Command.{Command}
+use Rattle.krml_command.specs.declared.request.Command.TheVariants.{C, Check}
 use Rattle.krml_cli.specs.declared.output.Output.{Output}
 use Rattle.krml_cli.specs.declared.refusal.FileRefusal.{FileRefusal}
 use Rattle.krml_cli.specs.declared.refusal.FileRefusal.TheVariants as refusal
 use Rattle.krml_cli.specs.declared.stop.Stop.{Stop}
 use Rattle.krml_cli.specs.declared.stop.Stop.TheVariants as stop
-use Rattle.krml_cli.specs.Accept.{IsAnswered, IsNotBuiltAt}
-use Rattle.krml_cli.specs.Ends.{CompilesTo, IsAccepted, AppendsPrefix, WritesAll, Call, Unwritten, Stops, Ends, line_of, status_of}
+use Rattle.krml_cli.specs.Accept.{AcceptsAs, IsAnswered, IsNotBuiltAt, PassesAnswer}
+use Rattle.krml_cli.specs.Ends.{CompilesTo, IsAccepted, Makes, AppendsPrefix, WritesAll, Call, Unwritten, Stops, Ends, line_of, status_of}
 use Rattle.krml_cli.specs.Refusal.{Accepts, Refuses, of_read, of_type}
-use Rattle.krml_cli.specs.Steps.{Runs, Notes, Reports}
-use Rattle.krml_cli.specs.Theorem.{IsCompiled, EachRunsWell}
+use Rattle.krml_cli.specs.Steps.{MakesOf, Runs, Notes, Reports}
+use Rattle.krml_cli.specs.Theorem.{IsEmitted, EachRunsWell}
+use Rattle.krml_cli.proofs.Compiled.{compiled_by}
 use Rattle.krml_cli.proofs.Refusals.{asks_is_no_usage}
 use Rattle.krml_cli.proofs.built.Unbuilt.{all_built}
 
 -- ---- accepting an input
 
 abbrev Answer : Type 0
-Answer = Result SourceFile FileRefusal
+Answer = Result (SourceFile × List Emitted) FileRefusal
 
 refuses_by : (text : List ℕ) (why : FileRefusal) (r : Answer) → IsErr r → IsErrAnd r (λ e. e ≡ why) → IsAnswered text (Err why) → IsAnswered text r
-refuses_by text why (Ok file) is e h = absurd (true≢false (sym is))
+refuses_by text why (Ok out) is e h = absurd (true≢false (sym is))
 refuses_by text why (Err w) is e h = subst (λ v. IsAnswered text (Err v)) (sym e) h
 
 -- a text that was not read
@@ -68,14 +74,41 @@ unbuilt_by text file typed seen why k s e t f u h = at why h (subst (λ (z : Sou
     at refusal.NoMemory h u = tt
     at (refusal.Read why) h u = absurd h
     at (refusal.«Type» def) h u = absurd h
+    at (refusal.Wide why) h u = absurd h
+    at (refusal.Frame why) h u = absurd h
 
--- one whose definitions are all well typed and built
-pub accepted_by : (text : List ℕ) (file typed seen : SourceFile) → SpellsFile text file → typed ≡ file → AreWellTyped file.defs → seen ≡ typed → first_unbuilt seen.defs ≡ None → Accepts text typed
-accepted_by text file typed seen s e t f n = record {
-  spelled = subst (SpellsFile text) (sym e) s;
-  typed = subst (λ (z : SourceFile). AreWellTyped z.defs) (sym e) t;
-  built = subst (λ (z : SourceFile). AreBuilt z.defs) f (all_built seen.defs n);
-}
+-- what has no definition that is not built is built
+pub built_by : (typed seen : SourceFile) → seen ≡ typed → first_unbuilt seen.defs ≡ None → AreBuilt typed.defs
+built_by typed seen f n = subst (λ (z : SourceFile). AreBuilt z.defs) f (all_built seen.defs n)
+
+-- one whose definitions are all well typed and built, where the passes answer
+pub passed_by : (text : List ℕ) (file typed seen : SourceFile) (r : Answer) → SpellsFile text file → typed ≡ file → AreWellTyped file.defs → seen ≡ typed
+    → first_unbuilt seen.defs ≡ None → PassesAnswer typed r → IsAnswered text r
+passed_by text file typed seen r s e t f n h = at r h
+  where
+    spelled : SpellsFile text typed
+    spelled = subst (SpellsFile text) (sym e) s
+
+    well : AreWellTyped typed.defs
+    well = subst (λ (z : SourceFile). AreWellTyped z.defs) (sym e) t
+
+    built : AreBuilt typed.defs
+    built = built_by typed seen f n
+
+    at : (r : Answer) → PassesAnswer typed r → IsAnswered text r
+    at (Ok out) h = record {
+      file = typed;
+      accepts = record { spelled = spelled; typed = well; built = built; narrow = h.narrow; small = h.small };
+      passed = h;
+    }
+    at (Err (refusal.Wide (m.Wide x k))) h = λ command. Refuses.wide spelled well built h
+    at (Err (refusal.Wide m.NoMemory)) h = absurd h
+    at (Err (refusal.Frame (o.FrameTooLarge x k))) h = λ command. Refuses.large spelled well built h.0 h.1
+    at (Err (refusal.Frame o.NoMemory)) h = absurd h
+    at (Err refusal.NoMemory) h = tt
+    at (Err (refusal.Read why)) h = absurd h
+    at (Err (refusal.«Type» def)) h = absurd h
+    at (Err (refusal.NotBuilt def)) h = absurd h
 
 -- ---- the answer of a command
 
@@ -88,12 +121,23 @@ runs_well : CheckedFilesRun → (input : List ℕ) (file : SourceFile) → Accep
 runs_well law input file a = λ entry args bound fit. law file entry args bound (typed_by input file a) fit
 
 -- an input that is accepted
-pub is_accepted : CheckedFilesRun → (input : List ℕ) (file : SourceFile) → Accepts input file → IsAccepted input
+is_accepted : CheckedFilesRun → (input : List ℕ) (file : SourceFile) → Accepts input file → IsAccepted input
 is_accepted law input file a = record { file = file; accepted = a; sound = runs_well law input file a }
 
--- what compiling made of the file of one
-pub compiles_by : CheckedFilesRun → (input text : List ℕ) (file : SourceFile) → Accepts input file → (IsTypedFile file → IsCompiled file text) → CompilesTo input text
-compiles_by law input text file a h = record { file = file; accepted = a; compiled = h (typed_by input file a); sound = runs_well law input file a }
+-- what was emitted for the file of one
+compiles_by : CheckedFilesRun → (input text : List ℕ) (out : SourceFile × List Emitted) → AcceptsAs input out → (IsBundled out.0 out.1 → IsEmitted out.0 text) → CompilesTo input text
+compiles_by law input text out a h = record {
+  file = a.file;
+  accepted = a.accepts;
+  compiled = compiled_by a.file out text (typed_by input a.file a.accepts) a.passed h;
+  sound = runs_well law input a.file a.accepts;
+}
+
+-- what a command made of what the passes gave for one
+pub makes_by : CheckedFilesRun → (command : Command) (input text : List ℕ) (status : ℕ) (out : SourceFile × List Emitted) → AcceptsAs input out → MakesOf command out text status
+    → Makes command input text status
+makes_by law C input text status out a h = (compiles_by law input text out a h.0, h.1)
+makes_by law Check input text status out a h = (is_accepted law input a.file a.accepts, h.0, h.1)
 
 -- a call that stops before anything is written
 pub stops_by : (c : Call) (why : Stop) → Runs c.words c.left c.left' c.read_faults c.read_faults' (Err why) → Unwritten c → Stops c why

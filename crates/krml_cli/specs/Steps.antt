@@ -4,20 +4,30 @@ use Rattle.std.specs.Io.KnownBytes.{Appends}
 use Rattle.krml_trace.specs.Outside.{Rose}
 use Rattle.krml_command.specs.declared.refusal.WordsRefusal.{WordsRefusal}
 use Rattle.krml_command.specs.declared.refusal.WordsRefusal.TheVariants as words
+use Rattle.krml_syntax.specs.declared.tree.SourceFile.{SourceFile}
+use Rattle.krml_ast.specs.declared.file.Emitted.{Emitted}
+use Rattle.krml_ast.specs.FileTypes.{IsBundled}
 use Rattle.krml_command.specs.declared.request.Command.{Command}
+use Rattle.krml_command.specs.declared.request.Command.TheVariants.{C, Check}
 use Rattle.krml_cli.specs.declared.output.Output.{Output}
 use Rattle.krml_cli.specs.declared.refusal.FileRefusal.{FileRefusal}
 use Rattle.krml_cli.specs.declared.refusal.FileRefusal.TheVariants as refusal
 use Rattle.krml_cli.specs.declared.stop.Stop.{Stop}
 use Rattle.krml_cli.specs.declared.stop.Stop.TheVariants as stop
-use Rattle.krml_cli.specs.Ends.{Asks, IsUsage, Taken, Makes, IsOutput, AppendsPrefix, status_of, line_of}
+use Rattle.krml_cli.specs.Ends.{Asks, IsUsage, Taken, Makes, IsOutput, AppendsPrefix, accepted_line, status_of, line_of}
 use Rattle.krml_cli.specs.Refusal.{Refuses}
+use Rattle.krml_cli.specs.Theorem.{IsEmitted}
 
 -- What a command answers to an input.
 abbrev pub Answers : Command → List ℕ → Result Output FileRefusal → Type 0
 Answers command input (Ok out) = Makes command input out.text.items out.status
 Answers command input (Err refusal.NoMemory) = Unit {0}
 Answers command input (Err why) = Refuses input command why
+
+-- What a command makes of what the passes gave: the text of C for it, or what `check` writes; and its status.
+abbrev pub MakesOf : Command → SourceFile × List Emitted → List ℕ → ℕ → Type 0
+MakesOf C out text status = (IsBundled out.0 out.1 → IsEmitted out.0 text) × (status ≡ 0)
+MakesOf Check out text status = (text ≡ accepted_line) × (status ≡ 0)
 
 -- a refusal for want of memory is want of memory
 abbrev pub of_refusal : FileRefusal → Stop

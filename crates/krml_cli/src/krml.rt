@@ -1,6 +1,6 @@
 //! The top call: a command, from its words to its status.
 
-ghost use Rattle.std.specs.Prelude.{◌≡◌, ◌↔◌, ◌<◌, ◌≤◌, ◌⊎◌, ℕ, List, Some, IsTrue, map};
+ghost use Rattle.std.specs.Prelude.{◌≡◌, ◌↔◌, ◌<◌, ◌≤◌, ◌⊎◌, ℕ, List, Some, IsTrue, IfOk, map};
 ghost use Rattle.std.specs.String.{string_bytes};
 ghost use Rattle.std.specs.Io.KnownBytes.{Appends, Keeps};
 ghost use Rattle.krml_trace.specs.Outside.{Rose};
@@ -12,19 +12,38 @@ ghost use Rattle.krml_cli.specs.declared.stop.Stop.{Stop};
 ghost use Rattle.krml_cli.specs.declared.stop.Stop.TheVariants as stop;
 ghost use Rattle.krml_cli.specs.Ends.{Asks, IsUsage, AcceptsNone, Compiled, Accepted, Refused, RefusedFor, FailedNotes, PrefixOnly, AppendsPrefix, IsNoted, IsPlain, IsCut, IsLine, status_of, line_of, Ends};
 ghost use Rattle.krml_cli.specs.Refusal.{Accepts, Refuses};
-ghost use Rattle.krml_cli.specs.Steps.{Answers, Runs, Notes, Reports};
+ghost use Rattle.krml_cstar.specs.Built.{AreBuilt};
+ghost use Rattle.krml_cli.specs.Steps.{Answers, MakesOf, Runs, Notes, Reports};
 
 use crate::accept::accept;
 use crate::input::read_input;
 use crate::output::{Output, write_all};
-use crate::pipeline::compile;
+use crate::pipeline::emit_c;
 use crate::refusal::{FileRefusal, refusal_line};
 use crate::stop::Stop;
+use krml_ast::BundledFile;
 use krml_command::{Command, read_words};
 use krml_meaning::checked_files_run;
 use krml_reader::one_answer;
-use krml_trace::{Sink, SinkFault, Source};
+use krml_trace::{NoMemory, Sink, SinkFault, Source};
 use std::alloc::{AllocError, Global};
+
+/// What a command makes of what the passes gave.
+fn output(alloc: Global, command: Command, bundled: &BundledFile) -> Result<Output, NoMemory>
+    requires built { AreBuilt bundled.now.0.defs }
+    ensures { IfOk result (λ out. MakesOf command bundled.now out.text.items out.status) }
+{
+    match command {
+        Command::C => {
+            let text = emit_c(alloc, bundled)?;
+            Ok(Output { text, status: 0 })
+        }
+        Command::Check => {
+            let text = Vec::from_slice(alloc, b"accepted\n")?;
+            Ok(Output { text, status: 0 })
+        }
+    }
+}
 
 /// What a command makes of a source text.
 fn answer(alloc: Global, command: Command, text: &[u8]) -> Result<Output, FileRefusal>
@@ -32,17 +51,9 @@ fn answer(alloc: Global, command: Command, text: &[u8]) -> Result<Output, FileRe
 {
     // The law that runs of such a file end as they should. The call does nothing when it runs.
     checked_files_run();
-    let typed = accept(alloc, text)?;
-    match command {
-        Command::C => Ok(Output {
-            text: compile(alloc, typed)?,
-            status: 0,
-        }),
-        Command::Check => Ok(Output {
-            text: Vec::from_slice(alloc, b"accepted\n")?,
-            status: 0,
-        }),
-    }
+    let bundled = accept(alloc, text)?;
+    let out = output(alloc, command, &bundled)?;
+    Ok(out)
 }
 
 /// What the command that the words ask for is to write.
@@ -71,7 +82,7 @@ fn report<E: Sink>(alloc: Global, notes: &mut E, stop: &Stop) -> u8
 {
     match stop {
         Stop::Refused(why) => match refusal_line(alloc, why) {
-            Ok(line) => note(notes, line.as_bytes(), 1),
+            Ok(line) => note(notes, line.as_slice(), 1),
             Err(AllocError) => note(notes, b"krml: out of memory\n", 5),
         },
         Stop::Usage => note(notes, b"krml: usage\n", 2),
@@ -120,7 +131,7 @@ fn command<S: Source, K: Sink, E: Sink>(
 /// | Status | Comes | Line on `notes` |
 /// |---|---|---|
 /// | 0 | the output was written | none |
-/// | 1 | the input is refused: it is not read, ill typed or not built | `krml: refused: ` and why |
+/// | 1 | the input is refused: it is not read, ill typed, not built, or has too wide a type or too large a frame | `krml: refused: ` and why |
 /// | 2 | the words ask for no command | `krml: usage` |
 /// | 3 | the source's count of faults rose | `krml: read fault` |
 /// | 4 | the count of `out` or of `notes` rose | `krml: write fault`, tried where `out` failed |

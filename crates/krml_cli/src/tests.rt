@@ -2,8 +2,15 @@
 
 ghost use Rattle.std.specs.Prelude.{◌≢◌, ◌≤◌, IfOk};
 
+use crate::built::first_unbuilt;
 use crate::krml::krml;
+use crate::pipeline::plain;
+use krml_ast::PlainFile;
+use krml_hoist::{HoistRefusal, hoist};
+use krml_match::MatchRefusal;
+use krml_reader::read_file;
 use krml_trace::{MemSink, MemSource, SureSink, SureSource};
+use krml_types::check_types;
 use std::alloc::{AllocError, Global};
 use std::test::Fail;
 
@@ -281,6 +288,117 @@ fn refused_definitions(rt: HostRuntime) -> Result<(), Fail> {
     for (input, words) in &REFUSED_DEFINITIONS {
         assert!(rt; is_refused(rt.alloc(), input, words)?);
     }
+    Ok(())
+}
+
+/// A struct of 13 numbers, and one of 12.
+const THIRTEEN: &[u8] =
+    b"(struct h () (a u32) (b u32) (c u32) (d u32) (e u32) (f u32) (g u32) (h u32) (i u32) (j u32) (k u32) (l u32) (m u32)) ";
+
+const TWELVE: &[u8] =
+    b"(struct h () (a u32) (b u32) (c u32) (d u32) (e u32) (f u32) (g u32) (h u32) (i u32) (j u32) (k u32) (l u32)) ";
+
+const TWO: &[u8] = b"(struct w () (x h) (y h)) (fun f () ((a w)) u32 (get a (get x a)))";
+
+/// The first type with more than 24 leaves is blamed, behind what is not built; 24 are not too many.
+#[test]
+fn wide_types(rt: HostRuntime) -> Result<(), Fail> {
+    let wide = text_of(rt.alloc(), &[(THIRTEEN, 1), (TWO, 1)])?;
+    assert!(rt; is_refused(rt.alloc(), wide.as_slice(), b"wide w 26")?);
+    let wider = text_of(
+        rt.alloc(),
+        &[
+            (THIRTEEN, 1),
+            (b"(struct v () (x h) (y h) (z u8)) ", 1),
+            (TWO, 1),
+        ],
+    )?;
+    assert!(rt; is_refused(rt.alloc(), wider.as_slice(), b"wide v 27")?);
+    let unbuilt = text_of(
+        rt.alloc(),
+        &[(THIRTEEN, 1), (TWO, 1), (b"(sum s () (A))", 1)],
+    )?;
+    assert!(rt; is_refused(rt.alloc(), unbuilt.as_slice(), b"not built 3")?);
+    let narrow = text_of(
+        rt.alloc(),
+        &[(TWELVE, 1), (b"(struct w () (x h) (y h))", 1)],
+    )?;
+    assert!(rt; gives(rt.alloc(), &["check"], narrow.as_slice(), ACCEPTED)?);
+    Ok(())
+}
+
+/// What hoisting says of a plain file.
+fn hoisted_of(
+    alloc: Global,
+    plain: Result<PlainFile, MatchRefusal>,
+) -> Option<Result<(), HoistRefusal>> {
+    let plain = plain.ok()?;
+    match hoist(alloc, &plain) {
+        Ok(_) => Some(Ok(())),
+        Err(why) => Some(Err(why)),
+    }
+}
+
+/// What hoisting says of a text that holds nothing but what is built and buffers.
+fn hoisted(alloc: Global, text: &[u8]) -> Option<Result<(), HoistRefusal>> {
+    let file = read_file(alloc, text).ok()?;
+    let typed = check_types(alloc, file).ok()?;
+    match first_unbuilt(true, typed.file()) {
+        None => hoisted_of(alloc, plain(alloc, typed, true)),
+        Some(_) => None,
+    }
+}
+
+/// Whether hoisting refuses a text for this frame.
+fn is_large(alloc: Global, text: &[u8], fun: &[u8], bytes: u64) -> bool {
+    match hoisted(alloc, text) {
+        Some(Err(HoistRefusal::FrameTooLarge { fun: f, bytes: n })) => f.as_bytes() == fun
+            && n == bytes,
+        _ => false,
+    }
+}
+
+/// A buffer of half a mebibyte, of which a frame holds 32.
+const BUFFER: &[u8] = b" (let b (buf u64) (alloc u64 65536 (u64 0)))";
+
+/// The first frame above 16,777,216 bytes is blamed, an outer one before those inside it.
+#[test]
+fn large_frames(rt: HostRuntime) -> Result<(), Fail> {
+    let fits = [
+        (b"(fun f () () unit (frame (do" as &[u8], 1),
+        (BUFFER, 32),
+        (b" unit)))", 1),
+    ];
+    let text = text_of(rt.alloc(), &fits)?;
+    assert!(rt; matches!(hoisted(rt.alloc(), text.as_slice()), Some(Ok(()))));
+    let large = [
+        (
+            b"(fun f () () unit unit) (fun g () () unit (frame (do" as &[u8],
+            1,
+        ),
+        (BUFFER, 33),
+        (b" unit)))", 1),
+    ];
+    let text = text_of(rt.alloc(), &large)?;
+    assert!(rt; is_large(rt.alloc(), text.as_slice(), b"g", 17_301_504));
+    let nested = [
+        (b"(fun f () () unit (frame (do" as &[u8], 1),
+        (BUFFER, 33),
+        (b" (frame (do", 1),
+        (BUFFER, 34),
+        (b" unit)))))", 1),
+    ];
+    let text = text_of(rt.alloc(), &nested)?;
+    assert!(rt; is_large(rt.alloc(), text.as_slice(), b"f", 17_301_504));
+    let inside = [
+        (b"(fun f () () unit (frame (do" as &[u8], 1),
+        (BUFFER, 32),
+        (b" (frame (do", 1),
+        (BUFFER, 34),
+        (b" unit)))))", 1),
+    ];
+    let text = text_of(rt.alloc(), &inside)?;
+    assert!(rt; is_large(rt.alloc(), text.as_slice(), b"f", 17_825_792));
     Ok(())
 }
 

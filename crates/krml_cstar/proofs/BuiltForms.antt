@@ -1,6 +1,6 @@
 -- What it takes an expression to be built: its form is one that no pass takes away, at no type arguments, and the types that it
 -- writes and its parts are built.
-use Rattle.std.proofs.Common.{◌≡◌, ℕ, true, false, List, [], ◌∷◌, ◌++◌, map, flat_map, refl, sym, ap, ◌∙◌, subst}
+use Rattle.std.proofs.Common.{◌≡◌, ℕ, Bool, true, false, List, [], ◌∷◌, ◌++◌, map, flat_map, refl, sym, ap, ◌∙◌, subst}
 use Rattle.std.specs.List.{AllByRecursion}
 use Rattle.krml_syntax.specs.declared.tree.Ty.{Ty}
 use Rattle.krml_syntax.specs.declared.tree.Item.{Item}
@@ -12,14 +12,15 @@ use Rattle.krml_syntax.specs.declared.tree.Expr.TheOpen.{Expr-F}
 use Rattle.krml_syntax.specs.Shape.{Part, parts_of, type_arguments, Role, role}
 use Rattle.krml_trace.proofs.Lists.{each_left, each_right}
 use Rattle.krml_ast.specs.Pieces.{Bound, pieces_of, pieces_of_ty, written_types, bound_variables}
+use Rattle.krml_ast.specs.FileTypes.{HasNoMatch}
 use Rattle.krml_ast.proofs.Pieces.{Parts, HoldsIn, inside_item, parts_hold, own_hold, last_holds, let_inside, run_inside}
-use Rattle.krml_cstar.specs.Built.{is_ty_built, is_form_built}
+use Rattle.krml_cstar.specs.Built.{is_ty_built, is_form_within}
 use Rattle.krml_cstar.proofs.Part.{nothing_listed, PieceBuilt, AllBuilt, ExprBuilt, types_built}
 
 -- ---- forms
 
 module _ {E I A C : Type 0} where
-  pub ordinary_built : (o : Expr-F E I A C) → is_form_built o ≡ true → role o ≡ Role.ordinary
+  pub ordinary_built : (o : Expr-F E I A C) → is_form_within false o ≡ true → role o ≡ Role.ordinary
   ordinary_built (Expr-F.Match a arms) h = absurd (cc)
   ordinary_built (Expr-F.Frame slots a) h = absurd (cc)
   ordinary_built (Expr-F.Alloc b n a) h = absurd (cc)
@@ -29,17 +30,23 @@ module _ {E I A C : Type 0} where
   ordinary_built (Expr-F.Fill k a) h = absurd (cc)
   ordinary_built _ h = refl
 
-  pub arguments_built : (o : Expr-F E I A C) → is_form_built o ≡ true → type_arguments o ≡ []
-  arguments_built (Expr-F.Make x args es) h = nothing_listed args h
-  arguments_built (Expr-F.Con x args es) h = absurd (cc)
-  arguments_built (Expr-F.Call x args es) h = nothing_listed args h
-  arguments_built _ h = refl
+  module _ (buffers : Bool) where
+    -- with buffers or without
+    pub arguments_within : (o : Expr-F E I A C) → is_form_within buffers o ≡ true → type_arguments o ≡ []
+    arguments_within (Expr-F.Make x args es) h = nothing_listed args h
+    arguments_within (Expr-F.Con x args es) h = absurd (cc)
+    arguments_within (Expr-F.Call x args es) h = nothing_listed args h
+    arguments_within _ h = refl
+
+    pub no_match_within : (o : Expr-F E I A C) → is_form_within buffers o ≡ true → HasNoMatch (role o)
+    no_match_within (Expr-F.Match a arms) h = absurd (cc)
+    no_match_within _ h = tt
 
 abbrev pub PartsBuilt : Parts → Type 0
 PartsBuilt parts = HoldsIn PieceBuilt parts
 
-pub no_arguments : (x : Expr) (o : Expr-F Expr Item Arm Case) → out-Expr x ≡ o → is_form_built (out-Expr x) ≡ true → type_arguments o ≡ []
-no_arguments x o is h = arguments_built o (sym (ap is_form_built is) ∙ h)
+pub no_arguments : (x : Expr) (o : Expr-F Expr Item Arm Case) → out-Expr x ≡ o → is_form_within false (out-Expr x) ≡ true → type_arguments o ≡ []
+no_arguments x o is h = arguments_within false o (sym (ap (is_form_within false) is) ∙ h)
 
 pub record FormBuilt (o : Expr-F Expr Item Arm Case) : Type 0 where
   pub arguments : type_arguments o ≡ []
@@ -56,9 +63,9 @@ form_built x o is h = record {
 }
 
 -- no expression is built whose form is not
-pub unbuilt : {X : Type 0} (x : Expr) (o : Expr-F Expr Item Arm Case) → out-Expr x ≡ o → is_form_built o ≡ false
-    → is_form_built (out-Expr x) ≡ true → X
-unbuilt x o is not h = let no : false ≡ true = sym not ∙ sym (ap is_form_built is) ∙ h in absurd (cc)
+pub unbuilt : {X : Type 0} (x : Expr) (o : Expr-F Expr Item Arm Case) → out-Expr x ≡ o → is_form_within false o ≡ false
+    → is_form_within false (out-Expr x) ≡ true → X
+unbuilt x o is not h = let no : false ≡ true = sym not ∙ sym (ap (is_form_within false) is) ∙ h in absurd (cc)
 
 -- ---- blocks
 

@@ -24,7 +24,7 @@ use Rattle.krml_meaning.proofs.Lists.{same_answer, each_get, each_so, each_appen
 use Rattle.krml_syntax.proofs.Types.{erased_bool, erased_unit, erased_int, erased_named, at_bool, at_unit, at_int, at_named}
 use Rattle.krml_meaning.proofs.Flat.{by_form}
 use Rattle.krml_meaning.proofs.Files.{fun_found, each_def}
-use Rattle.krml_cstar.specs.Built.{is_public, is_empty, level_ty_built, is_ty_built, is_piece_built, is_sum, is_built, AreBuilt}
+use Rattle.krml_cstar.specs.Built.{is_public, is_empty, level_ty_built, is_ty_built, is_sum, is_built, is_piece_within, is_within, AreBuilt, AreWithin}
 
 -- ---- types
 
@@ -103,34 +103,41 @@ module _ (P : Def → Type 0) where
 
 -- ---- what is built, piece by piece
 
+module _ (buffers : Bool) where
+  abbrev pub PieceWithin : Piece → Type 0
+  PieceWithin x = is_piece_within buffers x ≡ true
+
+  abbrev pub AllWithin : List Piece → Type 0
+  AllWithin pieces = AllByRecursion PieceWithin pieces
+
+  all_within : (pieces : List Piece) → list_all (is_piece_within buffers) pieces ≡ true → AllWithin pieces
+  all_within [] h = tt
+  all_within (x ∷ pieces) h = let k = and_parts (is_piece_within buffers x) (list_all (is_piece_within buffers) pieces) h in (k.0, all_within pieces k.1)
+
+  -- no sum, and without type variables
+  pub record DefWithin (def : Def) : Type 0 where
+    pub no_sum : not (is_sum def) ≡ true
+    pub none : listed_vars def ≡ []
+    pub pieces : AllWithin (pieces_of_def def)
+
+  pub def_within : (def : Def) → is_within buffers def ≡ true → DefWithin def
+  def_within def h =
+      let one = and_parts (not (is_sum def) && is_empty (listed_vars def)) (list_all (is_piece_within buffers) (pieces_of_def def)) h in
+      let two = and_parts (not (is_sum def)) (is_empty (listed_vars def)) one.0 in
+      record { no_sum = two.0; none = nothing_listed (listed_vars def) two.1; pieces = all_within (pieces_of_def def) one.1 }
+
+  pub pieces_within : (defs : List Def) → AreWithin buffers defs → AllWithin (pieces_in defs)
+  pieces_within [] h = tt
+  pieces_within (def ∷ defs) h = each_append PieceWithin (pieces_of_def def) (pieces_in defs) (def_within def h.0).pieces (pieces_within defs h.1)
+
 abbrev pub PieceBuilt : Piece → Type 0
-PieceBuilt x = is_piece_built x ≡ true
+PieceBuilt x = PieceWithin false x
 
 abbrev pub AllBuilt : List Piece → Type 0
-AllBuilt pieces = AllByRecursion PieceBuilt pieces
+AllBuilt pieces = AllWithin false pieces
 
 abbrev pub ExprBuilt : Expr → Type 0
 ExprBuilt x = AllBuilt (pieces_of x)
-
-all_built : (pieces : List Piece) → list_all is_piece_built pieces ≡ true → AllBuilt pieces
-all_built [] h = tt
-all_built (x ∷ pieces) h = let k = and_parts (is_piece_built x) (list_all is_piece_built pieces) h in (k.0, all_built pieces k.1)
-
--- no sum, and without type variables
-pub record DefBuilt (def : Def) : Type 0 where
-  pub no_sum : not (is_sum def) ≡ true
-  pub none : listed_vars def ≡ []
-  pub pieces : AllBuilt (pieces_of_def def)
-
-pub def_built : (def : Def) → is_built def ≡ true → DefBuilt def
-def_built def h =
-    let one = and_parts (not (is_sum def) && is_empty (listed_vars def)) (list_all is_piece_built (pieces_of_def def)) h in
-    let two = and_parts (not (is_sum def)) (is_empty (listed_vars def)) one.0 in
-    record { no_sum = two.0; none = nothing_listed (listed_vars def) two.1; pieces = all_built (pieces_of_def def) one.1 }
-
-pub built_pieces : (defs : List Def) → AreBuilt defs → AllBuilt (pieces_in defs)
-built_pieces [] h = tt
-built_pieces (def ∷ defs) h = each_append PieceBuilt (pieces_of_def def) (pieces_in defs) (def_built def h.0).pieces (built_pieces defs h.1)
 
 -- types that are written, as those of fields
 pub types_built : {A : Type 0} (f : A → Ty) (xs : List A) → AllBuilt (flat_map (λ x. pieces_of_ty (f x)) xs)
@@ -147,7 +154,7 @@ pub record FunBuilt (vars : List (List ℕ)) (params : List Field) (r : Ty) (x :
   pub result : is_ty_built r ≡ true
   pub body : ExprBuilt x
 
-pub fun_built : (x : List ℕ) (vars : List (List ℕ)) (params : List Field) (result : Ty) (body : Expr) → DefBuilt (d.Fun x vars params result body)
+pub fun_built : (x : List ℕ) (vars : List (List ℕ)) (params : List Field) (result : Ty) (body : Expr) → DefWithin false (d.Fun x vars params result body)
     → FunBuilt vars params result body
 fun_built x vars params result body b =
     let names : List Piece = map (λ (p : Field). Bound p.name) params in
@@ -198,18 +205,18 @@ values_in defs before def (WellTyped.entry new is none outside answer) = tt
 module _ (defs : List Def) (typed : AreWellTyped defs) (built : AreBuilt defs) where
   pub struct_built : (x : List ℕ) (vars : List (List ℕ)) (fields : List Field) → type_named defs x ≡ Some (Struct vars fields) → StructBuilt vars fields
   struct_built x vars fields e =
-      let b = def_built (d.Struct x vars fields) (at_struct (λ def. is_built def ≡ true) defs x vars fields built e) in
+      let b = def_within false (d.Struct x vars fields) (at_struct (λ def. is_built def ≡ true) defs x vars fields built e) in
       let v = at_struct ValuesIn defs x vars fields (each_def defs typed ValuesIn (values_in defs)) e in
       record { none = b.none; types = fields_built fields b.pieces; values = v.0; distinct = v.1 }
 
   pub function_built : (x : List ℕ) (f : Signature) (fun : src.Function) → fun_named defs x ≡ Some f → src.function_named defs x ≡ Some fun → FunctionBuilt f fun.body
   function_built x f fun e q =
       let b = at_function (λ def. is_built def ≡ true) defs x f fun built e q in
-      let k = fun_built x f.vars f.params f.result fun.body (def_built (d.Fun x f.vars f.params f.result fun.body) b) in
+      let k = fun_built x f.vars f.params f.result fun.body (def_within false (d.Fun x f.vars f.params f.result fun.body) b) in
       let v = at_function ValuesIn defs x f fun (each_def defs typed ValuesIn (values_in defs)) e q in
       record { none = k.none; types = k.types; values = v.0; distinct = v.1; result = k.result; body = k.body }
 
   pub table_built : (x : List ℕ) (i : IntTy) → table_named defs x ≡ Some i → is_public i ≡ true
   table_built x i e =
       let k = at_table (λ def. is_built def ≡ true) defs x i built e in
-      is_public_built i (def_built (d.Table x i k.0) k.1).pieces.0
+      is_public_built i (def_within false (d.Table x i k.0) k.1).pieces.0

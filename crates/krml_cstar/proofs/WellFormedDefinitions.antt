@@ -31,7 +31,7 @@ use Rattle.krml_meaning.proofs.Files.{facts}
 use Rattle.krml_cstar.specs.Built.{is_ty_built}
 use Rattle.krml_cstar.specs.Types.{ctype}
 use Rattle.krml_cstar.specs.Translation.{fun_code, structs_of, tables_of, funs_of}
-use Rattle.krml_cstar.proofs.Part.{FieldsBuilt, DefBuilt, FunBuilt, fields_built, fun_built}
+use Rattle.krml_cstar.proofs.Part.{FieldsBuilt, DefWithin, FunBuilt, fields_built, fun_built}
 use Rattle.krml_cstar.proofs.Lookups.{fields_of}
 use Rattle.krml_cstar.proofs.WellFormedNames.{decimal_is}
 use Rattle.krml_cstar.proofs.WellFormedCode.{TypeFits}
@@ -101,7 +101,7 @@ def_typed defs before def (WellTyped.entry new is none ps ans) = tt
 
 -- A definition is built, typed, and named as C has it.
 pub record DefFits (defs : List Def) (def : Def) : Type 0 where
-  pub built : DefBuilt def
+  pub built : DefWithin false def
   pub typed : DefTyped defs def
   pub size : HasSize def
   pub types : AllByRecursion IsStruct (type_name def)

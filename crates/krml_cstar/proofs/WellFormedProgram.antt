@@ -43,7 +43,7 @@ use Rattle.krml_cstar.proofs.WellFormedCode.{Within, TypeFits, declared}
 use Rattle.krml_cstar.proofs.WellFormedParts.{BindsVariable, BindVariables, binds_variables, left, right, ready}
 use Rattle.krml_cstar.proofs.WellFormedPlaces.{PartFits, Holds, InScope, Scoped, Placed, Places}
 use Rattle.krml_cstar.proofs.WellFormedExpressions.{placed}
-use Rattle.krml_cstar.proofs.Part.{FieldsBuilt, def_built, fields_built, fun_built}
+use Rattle.krml_cstar.proofs.Part.{FieldsBuilt, def_within, fields_built, fun_built}
 use Rattle.krml_cstar.proofs.WellFormedDefinitions.{each_both, each_apart, each_joined, struct_name, function_name, table_name_is, field_name, DefTyped, def_typed, DefFits, Among, type_there, parts_there, holds}
 use Rattle.krml_cstar.proofs.TypesInC.{ctype_same, unit_erased}
 
@@ -178,7 +178,7 @@ def_fits file emitted h built =
         → AllByRecursion (λ def. AllByRecursion IsField (field_names def)) ds → AllByRecursion (λ def. BindVariables (pieces_of_def def)) ds → AllByRecursion (DefFits file.defs) ds
     go [] a b c s t f m v = tt
     go (def ∷ ds) a b c s t f m v =
-        (record { built = def_built def a.0; typed = b.0; size = c.0; types = s.0; tables = t.0; funs = f.0; fields = m.0; binds = v.0 }, go ds a.1 b.1 c.1 s.1 t.1 f.1 m.1 v.1)
+        (record { built = def_within false def a.0; typed = b.0; size = c.0; types = s.0; tables = t.0; funs = f.0; fields = m.0; binds = v.0 }, go ds a.1 b.1 c.1 s.1 t.1 f.1 m.1 v.1)
 
 -- ---- distinct names
 

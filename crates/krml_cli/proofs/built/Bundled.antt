@@ -1,5 +1,5 @@
 -- Definitions that are built are built under new names, and so under those of C.
-use Rattle.std.proofs.Common.{◌≡◌, ◌==◌, not, ◌&&◌, List, [], ◌∷◌, map, refl, ap, ◌∙◌}
+use Rattle.std.proofs.Common.{◌≡◌, ◌==◌, false, not, ◌&&◌, List, [], ◌∷◌, map, refl, ap, ◌∙◌}
 use Rattle.std.specs.List.{list_all}
 use Rattle.std.proofs.lemmas.List.{length-map}
 use Rattle.krml_syntax.specs.declared.tree.Ty.{Ty, out-Ty}
@@ -18,13 +18,13 @@ use Rattle.krml_passing.proofs.RenamedLayers.{form_under, out_under}
 use Rattle.krml_passing.proofs.RenamedPieces.{piece_under, def_pieces}
 use Rattle.krml_bundle.specs.Bundled.{c_names, def_bundled}
 use Rattle.krml_bundle.proofs.Runs.{c_names_apart}
-use Rattle.krml_cstar.specs.Built.{is_empty, level_ty_built, is_form_built, is_piece_built, is_sum, is_built, AreBuilt}
+use Rattle.krml_cstar.specs.Built.{is_empty, level_ty_built, is_form_within, is_piece_within, is_sum, is_built, AreBuilt}
 
 module _ (nm : Naming) (ok : TellsNamesApart nm) where
   no_more : (args : List Ty) → is_empty (map nm.ty args) ≡ is_empty args
   no_more args = ap (λ n. n == 0) (length-map args nm.ty)
 
-  form_same : (o : Expr-F Expr Item Arm Case) → is_form_built (form_under nm o) ≡ is_form_built o
+  form_same : (o : Expr-F Expr Item Arm Case) → is_form_within false (form_under nm o) ≡ is_form_within false o
   form_same (Expr-F.Make x args es) = no_more args
   form_same (Expr-F.Call x args es) = no_more args
   form_same _ = refl
@@ -33,14 +33,14 @@ module _ (nm : Naming) (ok : TellsNamesApart nm) where
   ty_same (Ty-F.Named x args) = no_more args
   ty_same _ = refl
 
-  piece_same : (x : Piece) → is_piece_built (piece_under nm ok x) ≡ is_piece_built x
-  piece_same (Value x) = ap is_form_built (out_under nm x) ∙ form_same (out-Expr x)
+  piece_same : (x : Piece) → is_piece_within false (piece_under nm ok x) ≡ is_piece_within false x
+  piece_same (Value x) = ap (is_form_within false) (out_under nm x) ∙ form_same (out-Expr x)
   piece_same (Test x) = refl
   piece_same (Pattern q) = refl
   piece_same (Written a) = ap level_ty_built (ok.out_ty a) ∙ ty_same (out-Ty a)
   piece_same (Bound x) = refl
 
-  pieces_same : (pieces : List Piece) → list_all is_piece_built (map (piece_under nm ok) pieces) ≡ list_all is_piece_built pieces
+  pieces_same : (pieces : List Piece) → list_all (is_piece_within false) (map (piece_under nm ok) pieces) ≡ list_all (is_piece_within false) pieces
   pieces_same [] = refl
   pieces_same (x ∷ pieces) = rw (piece_same x, pieces_same pieces) refl
 

@@ -6,5 +6,5 @@ use Rattle.krml_cli.proofs.built.first_unbuilt.Goals as goal
 
 pub returns : goal.returns
 returns c =
-    let items = YieldsList-from_slice c.args.file.now.defs (c.iter.ensures.rest ∙ c.as_slice.ensures) in
-    position_from_yields_List _ _ _ _ c.position.ensures.ran items (λ x b q k. search (rules, tests, def_same))
+    let items = YieldsList-from_slice c.args.file.now.defs (c.iter.ensures.rest ∙ c.as_slice-defs.ensures) in
+    position_from_yields_List _ _ _ _ c.position.ensures.ran items (λ x b q k. search (rules, tests, def_same c.args.buffers))

@@ -1,14 +1,10 @@
-use Rattle.std.proofs.Common.{refl}
-use Rattle.krml_cli.proofs.Ended.{compiles_by, is_accepted}
+use Rattle.krml_cli.proofs.Ended.{makes_by}
 use Rattle.krml_cli.proofs.krml.answer.Goals as goal
 
-pub compile-requires : goal.compile-requires
-compile-requires c = record { built = c.in_ok-typed.ensures.built }
+pub output-requires : goal.output-requires
+output-requires c = record { built = c.in_ok-bundled.ensures.passed.built }
 
-pub returns-in_ok-compile-in-C : goal.returns-in_ok-compile-in-C
-returns-in_ok-compile-in-C c =
-    rw c.in-C.is (compiles_by c.checked_files_run.ensures.runs c.args.text.now c.in_ok-compile-in-C.field-0.items c.in_ok-typed.typed c.in_ok-typed.ensures c.in_ok-compile-in-C.ensures, refl)
-
-pub returns-in_ok-from_slice-in-Check : goal.returns-in_ok-from_slice-in-Check
-returns-in_ok-from_slice-in-Check c =
-    rw c.in-Check.is (is_accepted c.checked_files_run.ensures.runs c.args.text.now c.in_ok-typed.typed c.in_ok-typed.ensures, c.in_ok-from_slice-in-Check.ensures.items, refl)
+pub returns : goal.returns
+returns c =
+    makes_by c.checked_files_run.ensures.runs c.args.command c.args.text.now c.in_ok-out.out.text.items c.in_ok-out.out.status c.in_ok-bundled.bundled c.in_ok-bundled.ensures
+    c.in_ok-out.ensures

@@ -5,7 +5,7 @@ use Rattle.krml_cli.proofs.Ended.{same_line}
 use Rattle.krml_cli.proofs.krml.report.Goals as goal
 
 pub returns-in-Ok : goal.returns-in-Ok
-returns-in-Ok g c = rw c.in-Refused.is (Reports.made (same_line c.as_bytes.result.now (refusal_line c.in-Refused.why) (c.as_bytes.ensures.value ∙ c.in-Ok.ensures) c.note.ensures))
+returns-in-Ok g c = rw c.in-Refused.is (Reports.made (same_line c.as_slice.result.now (refusal_line c.in-Refused.why) (c.as_slice.ensures.value ∙ c.in-Ok.ensures) c.note.ensures))
 
 pub returns-in-Err : goal.returns-in-Err
 returns-in-Err g c = rw c.in-Refused.is (Reports.unmade c.note-in-Err.ensures)
